@@ -1,0 +1,13 @@
+pub mod Tests
+pub mod Walk
+pub mod Sets
+pub mod Front
+pub mod Bounds
+pub mod Trimming
+pub mod Same
+pub mod Sought
+pub mod Chars
+pub mod Texts
+pub mod Scalars
+pub mod Middle
+pub mod Unique
