@@ -18,14 +18,11 @@ module _ (w : ℕ → Bool) (b : ℕ) (s : List ℕ) where
   unfolding front
   front-out e = left _ _ e
 
--- the first i bytes are of the set
-abbrev pub Counted : (ℕ → Bool) → List ℕ → ℕ → Type 0
-Counted w s i = front w s ≡ i + front w (drop i s)
+-- the bytes from at up to i are of the set
+abbrev pub Counted : (ℕ → Bool) → List ℕ → ℕ → ℕ → Type 0
+Counted w s at i = at + front w (drop at s) ≡ i + front w (drop i s)
 
-pub counted-none : (w : ℕ → Bool) (s : List ℕ) → Counted w s 0
-counted-none w s = omega arith
-
-module _ (w : ℕ → Bool) (s : List ℕ) (i : ℕ) where
+module _ (w : ℕ → Bool) (s : List ℕ) (at i : ℕ) where
   none-left : length s ≤ i → front w (drop i s) ≡ 0
   unfolding front
   none-left h = rw (rest-end s i h)
@@ -36,11 +33,11 @@ module _ (w : ℕ → Bool) (s : List ℕ) (i : ℕ) where
   goes : i < length s → w (getD s i 0) ≡ true → front w (drop i s) ≡ suc (front w (drop (i + 1) s))
   goes h f = ap (front w) (rest-at s i h) ∙ front-in w _ _ f
 
-  pub counted-end : length s ≤ i → Counted w s i → i ≡ front w s
+  pub counted-end : length s ≤ i → Counted w s at i → i ≡ at + front w (drop at s)
   counted-end h e = omega (arith, none-left h)
 
-  pub counted-stop : i < length s → w (getD s i 0) ≡ false → Counted w s i → i ≡ front w s
+  pub counted-stop : i < length s → w (getD s i 0) ≡ false → Counted w s at i → i ≡ at + front w (drop at s)
   counted-stop h f e = omega (arith, stops h f)
 
-  pub counted-more : i < length s → w (getD s i 0) ≡ true → Counted w s i → front w s ≡ i + 1 + front w (drop (i + 1) s)
+  pub counted-more : i < length s → w (getD s i 0) ≡ true → Counted w s at i → Counted w s at (i + 1)
   counted-more h f e = omega (arith, goes h f)

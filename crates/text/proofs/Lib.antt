@@ -8,6 +8,7 @@ pub mod Same
 pub mod Sought
 pub mod Chars
 pub mod Texts
+pub mod Cuts
 pub mod Scalars
 pub mod Middle
 pub mod Unique

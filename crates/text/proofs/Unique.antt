@@ -1,68 +1,65 @@
--- For each public function: any two results that its promise allows on one input are equal. Slices are lent to read only, so that
--- they are unchanged is in their type. Of a part that is returned, the place in memory is meant too. Assumes nothing.
-use Prim.Native.Nat.{ℕ, _+_}
-use mathlib.Core.Path.{_≡_, sym, ap, _∙_}
-use mathlib.Core.Bool.{Bool}
-use mathlib.Core.List.{List, map}
-use Rattle.text.specs.Utf8.{utf8}
-use Rattle.text.specs.Trim.{inSet, trim, front}
-use Rattle.text.specs.Bytes.{same, begins, first, place, small, read}
-use Rattle.text.specs.Promise.{Trims}
-use Rattle.text.specs.declared.Set.{Set}
+-- For each public function: its promise allows one result. Slices are lent to read only, so that they are unchanged is in their type.
+-- Of the part that `trim` returns, the bytes and the place in memory are fixed. Assumes nothing.
+use mathlib.Core.Path.{_≡_, sym, ap₂, _∙_}
+use Prim.Native.Nat.{ℕ}
+use contract.Lifetimes.{Lfts}
+use denote.Triple.Clauses.{AtExit}
+use denote.Ref.{now}
+use borrow.Fn.Kinds.{Dens, resT, endedOf}
+use Rattle.promise.proofs.One.{One}
 use Rattle.text.specs.declared.Part.{Part}
-use Rattle.text.specs.declared.Found.{Found}
-use Rattle.text.specs.declared.Case.the-variants.{Small}
+use Rattle.text.proofs.is_utf8.Reads as is-utf8
+use Rattle.text.proofs.is_utf8.Kinds as is-utf8-kinds
+use Rattle.text.proofs.trimmed.Reads as trimmed
+use Rattle.text.proofs.trimmed.Kinds as trimmed-kinds
+use Rattle.text.proofs.trim.Reads as trim
+use Rattle.text.proofs.trim.Kinds as trim-kinds
+use Rattle.text.proofs.find_byte_from.Reads as find-byte-from
+use Rattle.text.proofs.find_byte_from.Kinds as find-byte-from-kinds
+use Rattle.text.proofs.find_byte.Reads as find-byte
+use Rattle.text.proofs.find_byte.Kinds as find-byte-kinds
+use Rattle.text.proofs.to_small.Reads as to-small
+use Rattle.text.proofs.to_small.Kinds as to-small-kinds
+use Rattle.text.proofs.starts_with.Reads as starts-with
+use Rattle.text.proofs.starts_with.Kinds as starts-with-kinds
+use Rattle.text.proofs.equal.Reads as equal
+use Rattle.text.proofs.equal.Kinds as equal-kinds
+use Rattle.text.proofs.equal_small.Reads as equal-small
+use Rattle.text.proofs.equal_small.Kinds as equal-small-kinds
+use Rattle.text.proofs.find.Reads as find
+use Rattle.text.proofs.find.Kinds as find-kinds
 
--- a promise that is an equation allows one result
-pub once {ℓ} : {A : Type ℓ} {x a b : A} → a ≡ x → b ≡ x → a ≡ b
-once e f = e ∙ sym f
+pub is-utf8-one : One 1 is-utf8-kinds.ps is-utf8-kinds.r is-utf8.Post
+is-utf8-one κs a u v x y p q = p ∙ sym q
 
-pub is-utf8-once : (s : List ℕ) (a b : Bool) → a ≡ utf8 s → b ≡ utf8 s → a ≡ b
-is-utf8-once s a b = once
-
-part : ℕ → ℕ → Part
+abbrev part : ℕ → ℕ → Part
 part x y = record { start = x; len = y }
 
-pub trimmed-once : (set : Set) (s : List ℕ) (a b : Part) → Trims set s a → Trims set s b → a ≡ b
-unfolding part
-trimmed-once set s a b e f = ap (λ (x : ℕ). part x (a .len)) (once (e .start) (f .start)) ∙ ap (part (b .start)) (once (e .len) (f .len))
+pub trimmed-one : One 1 trimmed-kinds.ps trimmed-kinds.r trimmed.Post
+trimmed-one κs a u v x y p q = ap₂ part (p .start ∙ sym (q .start)) (p .len ∙ sym (q .len))
 
--- what a returned part is: its bytes, the block of memory, and the place in it
-pub record Seen : Type 0 where
-  pub now : List ℕ
-  pub block : ℕ
-  pub at : ℕ
+-- the same bytes, in the same block of memory, at the same place
+pub trim-one : (κs : Lfts 1) (a : Dens κs trim-kinds.ps) (u v : resT trim-kinds.r κs .Denot) (x y : AtExit (endedOf 1 trim-kinds.ps trim-kinds.r) κs)
+    → trim.Post κs a u x → trim.Post κs a v y → (now u ≡ now v) × (u .ptr .0 ≡ v .ptr .0) × (u .ptr .1 ≡ v .ptr .1)
+trim-one κs a u v x y p q = (p .0 ∙ sym (q .0), p .1 .0 ∙ sym (q .1 .0), p .1 .1 ∙ sym (q .1 .1))
 
-seen : List ℕ → ℕ → ℕ → Seen
-seen l x y = record { now = l; block = x; at = y }
+pub find-byte-from-one : One 1 find-byte-from-kinds.ps find-byte-from-kinds.r find-byte-from.Post
+find-byte-from-one κs a u v x y p q = p ∙ sym q
 
--- what `trim` promises of it, for a text s that was lent from that place on
-pub record TrimSeen (set : Set) (s : List ℕ) (o start : ℕ) (r : Seen) : Type 0 where
-  pub now : r .now ≡ trim (inSet set) s
-  pub block : r .block ≡ o
-  pub at : r .at ≡ start + front (inSet set) s
+pub find-byte-one : One 1 find-byte-kinds.ps find-byte-kinds.r find-byte.Post
+find-byte-one κs a u v x y p q = p ∙ sym q
 
-pub trim-once : (set : Set) (s : List ℕ) (o start : ℕ) (a b : Seen) → TrimSeen set s o start a → TrimSeen set s o start b → a ≡ b
-unfolding seen
-trim-once set s o start a b e f =
-    ap (λ (l : List ℕ). seen l (a .block) (a .at)) (once (e .now) (f .now))
-    ∙ ap (λ (x : ℕ). seen (b .now) x (a .at)) (once (e .block) (f .block))
-    ∙ ap (seen (b .now) (b .block)) (once (e .at) (f .at))
+pub to-small-one : One 0 to-small-kinds.ps to-small-kinds.r to-small.Post
+to-small-one κs a u v x y p q = p ∙ sym q
 
-pub find-byte-once : (x : ℕ) (s : List ℕ) (a b : ℕ) → a ≡ place x s → b ≡ place x s → a ≡ b
-find-byte-once x s a b = once
+pub starts-with-one : One 2 starts-with-kinds.ps starts-with-kinds.r starts-with.Post
+starts-with-one κs a u v x y p q = p ∙ sym q
 
-pub to-small-once : (x a b : ℕ) → a ≡ small x → b ≡ small x → a ≡ b
-to-small-once x a b = once
+pub equal-one : One 2 equal-kinds.ps equal-kinds.r equal.Post
+equal-one κs a u v x y p q = p ∙ sym q
 
-pub starts-with-once : (p s : List ℕ) (a b : Bool) → a ≡ begins p s → b ≡ begins p s → a ≡ b
-starts-with-once p s a b = once
+pub equal-small-one : One 2 equal-small-kinds.ps equal-small-kinds.r equal-small.Post
+equal-small-one κs a u v x y p q = p ∙ sym q
 
-pub equal-once : (s other : List ℕ) (a b : Bool) → a ≡ same other s → b ≡ same other s → a ≡ b
-equal-once s other a b = once
-
-pub equal-small-once : (s other : List ℕ) (a b : Bool) → a ≡ same other (map (read Small) s) → b ≡ same other (map (read Small) s) → a ≡ b
-equal-small-once s other a b = once
-
-pub find-once : (p s : List ℕ) (a b : Found) → a ≡ first p s → b ≡ first p s → a ≡ b
-find-once p s a b = once
+pub find-one : One 2 find-kinds.ps find-kinds.r find.Post
+find-one κs a u v x y p q = p ∙ sym q

@@ -1,5 +1,7 @@
 -- Small questions about texts of bytes that several layers ask.
 use Prim.Native.Nat.{ℕ, suc, _+_}
+use Prim.Native.Char.{code}
+use Prim.Native.String as Str
 use mathlib.Core.Bool.{Bool, true, false, not, _&&_}
 use mathlib.Core.List.{List, [], _∷_}
 use lib.Dec.{leb, eqb}
@@ -8,6 +10,11 @@ use Rattle.text.specs.declared.Case.{Case}
 use Rattle.text.specs.declared.Case.the-variants.{AsWritten, Small}
 use Rattle.text.specs.declared.Found.{Found}
 use Rattle.text.specs.declared.Found.the-variants.{At, Nowhere}
+
+-- the bytes of an ASCII text in quotes
+abbrev pub bytes : Str.String → List ℕ
+bytes Str.String.[] = []
+bytes (Str.String._∷_ c s) = code c ∷ bytes s
 
 -- the two texts are the same
 unfoldable pub same : List ℕ → List ℕ → Bool

@@ -3,7 +3,7 @@
 ghost use mathlib.Core.Path.{_≡_};
 ghost use mathlib.Core.List.{map};
 ghost use Prim.Native.Nat.{_+_, _<_, _≤_};
-ghost use lib.ListN.{length};
+ghost use lib.ListN.{length, drop};
 ghost use Rattle.text.specs.Utf8.{utf8};
 ghost use Rattle.text.specs.Trim.{inSet, front, trim, trimEnd};
 ghost use Rattle.text.specs.Bytes.{same, begins, first, place, small, read};
@@ -205,11 +205,11 @@ pub fn trim<'a>(s: &'a [u8], set: Set) -> &'a [u8]
     &s[start..end]
 }
 
-// The first place of a byte, or the text's length.
-pub fn find_byte(s: &[u8], x: u8) -> usize
-    ensures { λ r. ⌜ r ≡ place x (now (s .entry)) ⌝ }
+// The first place of a byte from a place on, or the text's length.
+pub fn find_byte_from(s: &[u8], at: usize, x: u8) -> usize
+    ensures { λ r. ⌜ r ≡ at + place x (drop at (now (s .entry))) ⌝ }
 {
-    let mut i = 0;
+    let mut i = at;
     while i < s.len() {
         if s[i] == x {
             return i;
@@ -217,6 +217,13 @@ pub fn find_byte(s: &[u8], x: u8) -> usize
         i += 1;
     }
     i
+}
+
+// The first place of a byte, or the text's length.
+pub fn find_byte(s: &[u8], x: u8) -> usize
+    ensures { λ r. ⌜ r ≡ place x (now (s .entry)) ⌝ }
+{
+    find_byte_from(s, 0, x)
 }
 
 // How the letters of a text are read.
