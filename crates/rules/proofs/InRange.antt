@@ -1,0 +1,139 @@
+-- A rated rule yields a value within its range at every count, and never a remainder by zero; so a rule that fits k yields a form
+-- below k. By induction on the tree, with one lemma for each kind of node.
+use Prim.Native.Nat.{ℕ, _-_, _%_, _^_, _<_, _≤_, min, max}
+use mathlib.Core.Path.{_≡_, refl, subst₂}
+use mathlib.Core.Bool.{Bool, true, false, not}
+use native.Mathlib.Omega.{arith}
+use native.Mathlib.Nat.{mod-lt, mod-le}
+use lib.Dec.{eqb, ltb}
+use borrow.Author.Tests.{eqb-false, ne-eqb, ltb-true, le-ltb}
+use Rattle.rules.specs.declared.Value.{Value}
+use Rattle.rules.specs.declared.Value.the-variants.{Is, ZeroModulus}
+use Rattle.rules.specs.declared.Rating.{Rating}
+use Rattle.rules.specs.declared.Rating.the-variants.{Range, Unrated}
+use Rattle.rules.specs.Tree.{Tree, var, int, nay, bin, cond, Op, cmp, and, or, rem, ne}
+use Rattle.rules.specs.Value.{truth, truthV, pickV, compared, binary, negated, chosen, evalTree}
+use Rattle.rules.specs.Range.{pickR, opRange, binRange, condRange, notRange, rateTree, fitsRange}
+use Rattle.rules.proofs.Operators.{never}
+
+-- a value within a range
+abbrev Within : Rating → Value → Type 0
+Within (Range l h) (Is v) = (l ≤ v) × (v ≤ h)
+Within (Range l h) ZeroModulus = ⊥
+Within Unrated v = Unit {0}
+
+truth-in : (b : Bool) → (0 ≤ truth b) × (truth b ≤ 1)
+truth-in true = omega arith
+truth-in false = omega arith
+
+truthV-in : (l h : ℕ) (v : Value) → Within (Range l h) v → Within (Range 0 1) (truthV v)
+unfolding truthV
+truthV-in l h (Is y) w = truth-in (not (eqb y 0))
+truthV-in l h ZeroModulus w = w
+
+nay-in : (r : Rating) (v : Value) → Within r v → Within (notRange r) (negated v)
+unfolding notRange negated
+nay-in (Range l h) (Is x) w = truth-in (eqb x 0)
+nay-in (Range l h) ZeroModulus w = w
+nay-in Unrated v w = tt
+
+pick-in : (b : Bool) (r : Rating) (v w : Value) → Within r v → Within r w → Within r (pickV b v w)
+pick-in true r v w p q = p
+pick-in false r v w p q = q
+
+wider : (l h k m : ℕ) (v : Value) → Within (Range l h) v → k ≤ l → h ≤ m → Within (Range k m) v
+wider l h k m (Is x) w p q = omega arith
+wider l h k m ZeroModulus w p q = w
+
+rem-in : (h l m x y : ℕ) (b : Bool) → eqb l 0 ≡ b → x ≤ h → l ≤ y → y ≤ m
+    → Within (pickR b Unrated (Range 0 (min h (m - 1)))) (pickV (eqb y 0) ZeroModulus (Is (x % y)))
+rem-in h l m x y true e p q r = tt
+rem-in h l m x y false e p q r =
+    let k : l ≡ 0 → ⊥ = eqb-false l 0 e in
+    let y0 : y ≡ 0 → ⊥ = omega arith in
+    rw (ne-eqb _ _ y0) (omega (arith, mod-lt x {m = y} (omega arith), mod-le x y))
+
+op-in : (op : Op) (k h l m : ℕ) (v w : Value) → Within (Range k h) v → Within (Range l m) w → Within (opRange op h l m) (binary op v w)
+unfolding opRange binary
+op-in op k h l m ZeroModulus w p q = absurd p
+op-in (cmp c) k h l m (Is x) (Is y) p q = truth-in (compared c x y)
+op-in (cmp c) k h l m (Is x) ZeroModulus p q = q
+op-in and k h l m (Is x) w p q = pick-in (eqb x 0) (Range 0 1) (Is 0) (truthV w) (omega arith) (truthV-in l m w q)
+op-in or k h l m (Is x) w p q = pick-in (eqb x 0) (Range 0 1) (truthV w) (Is 1) (truthV-in l m w q) (omega arith)
+op-in rem k h l m (Is x) (Is y) p q = rem-in h l m x y (eqb l 0) refl (p .1) (q .0) (q .1)
+op-in rem k h l m (Is x) ZeroModulus p q = absurd q
+
+bin-in : (op : Op) (r s : Rating) (v w : Value) → Within r v → Within s w → Within (binRange op r s) (binary op v w)
+unfolding binRange
+bin-in op (Range k h) (Range l m) v w p q = op-in op k h l m v w p q
+bin-in op (Range k h) Unrated v w p q = tt
+bin-in op Unrated s v w p q = tt
+
+cond-in : (r s q : Rating) (u v w : Value) → Within r u → Within s v → Within q w → Within (condRange r s q) (chosen u v w)
+unfolding condRange chosen
+cond-in (Range i j) (Range k h) (Range l m) (Is x) v w a b c =
+    pick-in (eqb x 0) (Range (min k l) (max h m)) w v
+    (wider l m (min k l) (max h m) w c (omega arith) (omega arith))
+    (wider k h (min k l) (max h m) v b (omega arith) (omega arith))
+cond-in (Range i j) (Range k h) (Range l m) ZeroModulus v w a b c = a
+cond-in (Range i j) (Range k h) Unrated u v w a b c = tt
+cond-in (Range i j) Unrated q u v w a b c = tt
+cond-in Unrated s q u v w a b c = tt
+
+within : (t : Tree) (n : ℕ) → n < 2 ^ 64 → Within (rateTree t) (evalTree t n)
+unfolding rateTree evalTree
+within var n h = omega arith
+within (int x) n h = omega arith
+within (nay t) n h = nay-in _ _ (within t n h)
+within (bin op s t) n h = bin-in op _ _ _ _ (within s n h) (within t n h)
+within (cond s t u) n h = cond-in _ _ _ _ _ _ (within s n h) (within t n h) (within u n h)
+
+-- a value from lo to hi, and so no zero remainder
+pub record FromTo (lo hi : ℕ) (v : Value) : Type 0 where
+  pub form : ℕ
+  pub is : v ≡ Is form
+  pub low : lo ≤ form
+  pub high : form ≤ hi
+
+-- a rule of range lo to hi yields at every count a value from lo to hi
+pub rated : (t : Tree) (lo hi : ℕ) → rateTree t ≡ Range lo hi → (n : ℕ) → n < 2 ^ 64 → FromTo lo hi (evalTree t n)
+rated t lo hi e n b = go (evalTree t n) refl
+  where
+    go : (u : Value) → evalTree t n ≡ u → FromTo lo hi (evalTree t n)
+    go (Is v) f =
+        let w : Within (Range lo hi) (Is v) = subst₂ Within e f (within t n b) in
+        record { form = v; is = f; low = w .0; high = w .1 }
+    go ZeroModulus f = absurd (subst₂ Within e f (within t n b))
+
+-- a range's lowest is at most its highest: the value at 0 lies between them
+pub ordered : (t : Tree) (lo hi : ℕ) → rateTree t ≡ Range lo hi → lo ≤ hi
+ordered t lo hi e = let w : FromTo lo hi (evalTree t 0) = rated t lo hi e 0 (omega arith) in omega arith
+
+-- a form below k
+pub record Below (k : ℕ) (v : Value) : Type 0 where
+  pub form : ℕ
+  pub is : v ≡ Is form
+  pub low : form < k
+
+-- a rule that fits k yields a form below k at every count
+pub fitting : (t : Tree) (k : ℕ) → fitsRange (rateTree t) k ≡ true → (n : ℕ) → n < 2 ^ 64 → Below k (evalTree t n)
+unfolding fitsRange
+fitting t k e n b = go (rateTree t) refl
+  where
+    go : (r : Rating) → rateTree t ≡ r → Below k (evalTree t n)
+    go (Range l h) f =
+        let w : FromTo l h (evalTree t n) = rated t l h f n b in
+        let d : ltb h k ≡ true = rw f at e in
+        record { form = w .form; is = w .is; low = omega (arith, ltb-true h k d) }
+    go Unrated f = never (rw f at e)
+
+-- nothing fits 0
+pub fits-none : (r : Rating) → fitsRange r 0 ≡ false
+unfolding fitsRange
+fits-none (Range l h) = le-ltb h 0 (omega arith)
+fits-none Unrated = refl
+
+-- the default rule's range is 0 to 1
+pub default-range : rateTree (bin (cmp ne) var (int 1)) ≡ Range 0 1
+unfolding rateTree binRange opRange
+default-range = refl

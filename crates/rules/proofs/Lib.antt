@@ -1,0 +1,12 @@
+pub mod Operators
+pub mod Trees
+pub mod Values
+pub mod Ranges
+pub mod InRange
+pub mod Marks
+pub mod Answers
+pub mod Stored
+pub mod StoredTree
+pub mod Forms
+mod Unique
+mod Cases

@@ -1,0 +1,51 @@
+-- Each public function's promise fixes its result: any two results that it allows on the same input are equal. `Post` is the promise
+-- as the check reads it from the source; the arrays that `put` is lent count as its result.
+use Prim.Native.Nat.{ℕ}
+use mathlib.Core.Path.{_≡_, sym, ap₂, _∙_}
+use mathlib.Core.List.{List}
+use contract.Lifetimes.{Lfts}
+use denote.Triple.Clauses.{AtExit}
+use denote.Ref.{now}
+use borrow.Fn.Kinds.{PK, RK, Out, Dens, resT, endedOf}
+use Rattle.rules.specs.declared.Rule.{Rule}
+use Rattle.rules.specs.Pool.{Pool, pool}
+use Rattle.rules.proofs.is_tree.Reads as is-tree
+use Rattle.rules.proofs.is_tree.Kinds as is-tree-kinds
+use Rattle.rules.proofs.resolve.Reads as resolve
+use Rattle.rules.proofs.resolve.Kinds as resolve-kinds
+use Rattle.rules.proofs.rating_of.Reads as rating-of
+use Rattle.rules.proofs.rating_of.Kinds as rating-of-kinds
+use Rattle.rules.proofs.fits.Reads as fits
+use Rattle.rules.proofs.fits.Kinds as fits-kinds
+use Rattle.rules.proofs.default_rule.Reads as default-rule
+use Rattle.rules.proofs.default_rule.Kinds as default-rule-kinds
+use Rattle.rules.proofs.put.Reads as put
+use Rattle.rules.proofs.put.Kinds as put-kinds
+
+-- a promise allows one result
+abbrev pub One : (n : ℕ) (ps : List (PK n)) (r : RK n) → Out n ps r → Type 0
+One n ps r Post =
+    (κs : Lfts n) (a : Dens κs ps) (u v : resT r κs .Denot) (x y : AtExit (endedOf n ps r) κs) → Post κs a u x → Post κs a v y → u ≡ v
+
+pub is-tree-one : One 1 is-tree-kinds.ps is-tree-kinds.r is-tree.Post
+is-tree-one κs a u v x y p q = p ∙ sym q
+
+pub resolve-one : One 1 resolve-kinds.ps resolve-kinds.r resolve.Post
+resolve-one κs a u v x y p q = p ∙ sym q
+
+pub rating-one : One 1 rating-of-kinds.ps rating-of-kinds.r rating-of.Post
+rating-one κs a u v x y p q = p ∙ sym q
+
+pub fits-one : One 1 fits-kinds.ps fits-kinds.r fits.Post
+fits-one κs a u v x y p q = p ∙ sym q
+
+abbrev made : Pool → ℕ → Rule
+made P count = record { codes = P .codes; places = P .places; values = P .values; count = count }
+
+pub default-one : One 0 default-rule-kinds.ps default-rule-kinds.r default-rule.Post
+default-one κs a u v x y p q = ap₂ made (p .0 ∙ sym (q .0)) (p .1 ∙ sym (q .1))
+
+pub put-one : (κs : Lfts 3) (a : Dens κs put-kinds.ps) (u v : resT put-kinds.r κs .Denot) (x y : AtExit (endedOf 3 put-kinds.ps put-kinds.r) κs)
+    → put.Post κs a u x → put.Post κs a v y
+    → pool (now (x .0)) (now (x .1 .0)) (now (x .1 .1 .0)) ≡ pool (now (y .0)) (now (y .1 .0)) (now (y .1 .1 .0))
+put-one κs a u v x y p q = p ∙ sym q

@@ -1,0 +1,7 @@
+pub mod Tree
+pub mod Value
+pub mod Range
+pub mod Pool
+pub mod Store
+pub mod Answer
+pub mod Walk

@@ -1,0 +1,45 @@
+-- The range of a rule. Document 01, "Range table"; a node with any unrated operand is unrated, reached or not.
+use Prim.Native.Nat.{ℕ, _-_, _^_, min, max}
+use mathlib.Core.Bool.{Bool, true, false}
+use lib.Dec.{ltb, eqb}
+use Rattle.rules.specs.declared.Rating.{Rating}
+use Rattle.rules.specs.declared.Rating.the-variants.{Range, Unrated}
+use Rattle.rules.specs.Tree.{Tree, var, int, nay, bin, cond, Op, cmp, and, or, rem}
+
+abbrev pub pickR : Bool → Rating → Rating → Rating
+pickR true r s = r
+pickR false r s = s
+
+-- the table's row of a binary operator: h is the left operand's highest, l and m the right one's lowest and highest
+unfoldable pub opRange : Op → ℕ → ℕ → ℕ → Rating
+opRange (cmp k) h l m = Range 0 1
+opRange and h l m = Range 0 1
+opRange or h l m = Range 0 1
+opRange rem h l m = pickR (eqb l 0) Unrated (Range 0 (min h (m - 1)))
+
+unfoldable pub notRange : Rating → Rating
+notRange (Range l h) = Range 0 1
+notRange Unrated = Unrated
+
+unfoldable pub binRange : Op → Rating → Rating → Rating
+binRange op (Range k h) (Range l m) = opRange op h l m
+binRange op (Range k h) Unrated = Unrated
+binRange op Unrated r = Unrated
+
+unfoldable pub condRange : Rating → Rating → Rating → Rating
+condRange (Range i j) (Range k h) (Range l m) = Range (min k l) (max h m)
+condRange (Range i j) (Range k h) Unrated = Unrated
+condRange (Range i j) Unrated r = Unrated
+condRange Unrated q r = Unrated
+
+unfoldable pub rateTree : Tree → Rating
+rateTree var = Range 0 (2 ^ 64 - 1)
+rateTree (int x) = Range x x
+rateTree (nay t) = notRange (rateTree t)
+rateTree (bin op s t) = binRange op (rateTree s) (rateTree t)
+rateTree (cond s t u) = condRange (rateTree s) (rateTree t) (rateTree u)
+
+-- a rule fits k if it is rated and its highest is below k
+unfoldable pub fitsRange : Rating → ℕ → Bool
+fitsRange (Range l h) k = ltb h k
+fitsRange Unrated k = false

@@ -1,0 +1,22 @@
+-- The tree of a plural rule: n, an integer, !, a binary operator, ?:. Document 01, "Two readings of a rule"; the operators are
+-- those of the Rust's `Operator`, and the six comparisons are one constructor.
+use Prim.Native.Nat.{ℕ}
+
+pub data Cmp : Type 0 where
+  eq ne ge le gt lt : Cmp
+
+pub data Op : Type 0 where
+  cmp : Cmp → Op
+  and or rem : Op
+
+pub data Tree : Type 0 where
+  var : Tree
+  int : ℕ → Tree
+  nay : Tree → Tree
+  bin : Op → Tree → Tree → Tree
+  cond : Tree → Tree → Tree → Tree
+
+-- what a reading makes of a text: its tree, or no reading
+pub data Reading : Type 0 where
+  tree : Tree → Reading
+  none : Reading

@@ -1,0 +1,50 @@
+-- What the functions inside the crate ask and promise of one another: the walk over operands of document 01, "Two readings of a rule"
+-- and "Range table", and the tree test of "The record", place by place.
+use Prim.Native.Nat.{ℕ, _+_, _-_, _<_, _≤_}
+use mathlib.Core.Path.{_≡_}
+use mathlib.Core.Bool.{Bool, true, false, not, _&&_}
+use mathlib.Core.List.{List, _++_}
+use lib.ListN.{length, getD, set}
+use lib.Dec.{ltb, eqb}
+use Rattle.rules.specs.Tree.{Op, cmp, and, or, rem, Cmp, eq}
+use Rattle.rules.specs.Pool.{Pool, code, known, opOf, operands, allBelow, used, member, distinct, shaped}
+
+-- the left operand settles the operator
+unfoldable pub settled : Op → ℕ → Bool
+settled (cmp k) x = false
+settled and x = eqb x 0
+settled or x = not (eqb x 0)
+settled rem x = false
+
+abbrev pub cmpIn : Op → Cmp
+cmpIn (cmp k) = k
+cmpIn and = eq
+cmpIn or = eq
+cmpIn rem = eq
+
+-- the comparison of a code
+unfoldable pub cmpOf : ℕ → Cmp
+cmpOf c = cmpIn (opOf c)
+
+-- a place below the node count of a pool whose places all have known codes and operands below them
+pub record Sound (P : Pool) (p : ℕ) : Type 0 where
+  pub count : ℕ
+  pub inside : p < count
+  pub few : count ≤ 512
+  pub shape : shaped P count ≡ true
+
+-- the marks are those of the places in a list in which none stands twice
+pub record Marked (m xs : List ℕ) : Type 0 where
+  pub long : length m ≡ 512
+  pub says : (q : ℕ) → q < 512 → not (eqb (getD m q 0) 0) ≡ member q xs
+  pub apart : distinct xs ≡ true
+
+-- the operand place q of a node at p was tested against the marks m, which then are n
+pub record Took (q p : ℕ) (m n : List ℕ) (r : Bool) : Type 0 where
+  pub answer : r ≡ (ltb q p && eqb (getD m q 0) 0)
+  pub marks : r ≡ true → n ≡ set m q 1
+
+-- the node at p was tested against the marks of the operands before it, and its operands were marked
+pub record Placed (P : Pool) (p : ℕ) (n : List ℕ) (r : Bool) : Type 0 where
+  pub answer : r ≡ (known (code P p) && (allBelow p (operands P p) && distinct (operands P p ++ used P p)))
+  pub marks : r ≡ true → Marked n (operands P p ++ used P p)

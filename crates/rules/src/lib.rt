@@ -1,0 +1,442 @@
+// A plural rule as nodes in arrays of numbers: the test that they are a tree, its value at a count, and its range.
+// A port of plurals.rs: `Ast`, `Operator`, `resolve`. `Box<Ast>` is a place in the arrays.
+ghost use mathlib.Core.Path.{_≡_};
+ghost use mathlib.Core.List.{[]};
+ghost use Prim.Native.Nat.{_+_, _<_, _≤_, _*_, min, max};
+ghost use lib.ListN.{getD};
+ghost use Rattle.rules.specs.Tree.{bin, var, int, cmp, ne};
+ghost use Rattle.rules.specs.Value.{truth, compared, binary, evalTree};
+ghost use Rattle.rules.specs.Range.{opRange, rateTree};
+ghost use Rattle.rules.specs.Pool.{pool, arity, opOf, treeOf, used, isTree};
+ghost use Rattle.rules.specs.Store.{push, store, blank};
+ghost use Rattle.rules.specs.Walk.{settled, cmpOf, Sound, Marked, Took, Placed};
+ghost use Rattle.rules.specs.Answer.{resolvedOf, ratedOf, fitOf};
+
+// The codes of nodes.
+pub mod node;
+
+// The most nodes of a rule.
+pub const MOST: usize = 512;
+
+// The largest count, 2^64 - 1.
+pub const LARGEST: u64 = 0xffff_ffff_ffff_ffff;
+
+// The value of a rule at a count.
+pub enum Value {
+    Is(u64),
+    ZeroModulus,
+}
+
+// The lowest and the highest value of a rule, or none.
+pub enum Rating {
+    Range(u64, u64),
+    Unrated,
+}
+
+// What reading a rule leaves in the lent arrays: this many nodes, or nothing of use.
+pub enum Nodes {
+    Read(usize),
+    NoReading,
+}
+
+// The value of a rule in a pool at a count.
+pub enum Resolved {
+    Form(u64),
+    ZeroModulus,
+    NoTree,
+}
+
+// The range of a rule in a pool.
+pub enum Rated {
+    Range(u64, u64),
+    Unrated,
+    NoTree,
+}
+
+// Whether the forms of a rule in a pool are all below a number.
+pub enum Fit {
+    Yes,
+    No,
+    NoTree,
+}
+
+// A rule by value: its nodes are the first `count` places, the last of them the root.
+pub struct Rule {
+    pub codes: [u8; 512],
+    pub places: [u16; 1536],
+    pub values: [u64; 512],
+    pub count: usize,
+}
+
+// Puts a node at place k: its code, its operands' places and the value of an integer.
+pub fn put(
+    codes: &mut [u8; 512],
+    places: &mut [u16; 1536],
+    values: &mut [u64; 512],
+    k: usize,
+    code: u8,
+    x: u16,
+    y: u16,
+    z: u16,
+    value: u64,
+)
+    requires { ⌜ k < 512 ⌝ }
+    ensures { λ _. ⌜ pool (now (codes .exit)) (now (places .exit)) (now (values .exit)) ≡
+        push (pool (now (codes .entry)) (now (places .entry)) (now (values .entry))) k code x y z value ⌝ }
+{
+    codes[k] = code;
+    places[3 * k] = x;
+    places[3 * k + 1] = y;
+    places[3 * k + 2] = z;
+    values[k] = value;
+}
+
+// The rule of a catalog without one: n != 1.
+pub fn default_rule() -> Rule
+    ensures nodes { λ r. ⌜ pool (r .codes) (r .places) (r .values) ≡ store (bin (cmp ne) var (int 1)) 0 blank ⌝ }
+    ensures count { λ r. ⌜ r .count ≡ 3 ⌝ }
+{
+    let mut codes = [0u8; 512];
+    let mut places = [0u16; 1536];
+    let mut values = [0u64; 512];
+    put(&mut codes, &mut places, &mut values, 0, node::N, 0, 0, 0, 0);
+    put(
+        &mut codes,
+        &mut places,
+        &mut values,
+        1,
+        node::INTEGER,
+        0,
+        0,
+        0,
+        1,
+    );
+    put(
+        &mut codes,
+        &mut places,
+        &mut values,
+        2,
+        node::NOT_EQUAL,
+        0,
+        1,
+        0,
+        0,
+    );
+    Rule {
+        codes,
+        places,
+        values,
+        count: 3,
+    }
+}
+
+// The place of operand j of the node at a place.
+fn operand<'a>(places: &'a [u16; 1536], at: usize, j: usize) -> usize
+    requires { ⌜ (at < 512) × (j < 3) ⌝ }
+    ensures { λ r. ⌜ r ≡ getD (now (places .entry)) (3 * at + j) 0 ⌝ }
+{
+    wide(places[3 * at + j])
+}
+
+fn wide(x: u16) -> usize
+    ensures { λ r. ⌜ r ≡ x ⌝ }
+{
+    x as usize
+}
+
+// How many operands a node has.
+fn arity(code: u8) -> usize
+    ensures { λ r. ⌜ r ≡ arity code ⌝ }
+{
+    match code {
+        node::N | node::INTEGER => 0,
+        node::NOT => 1,
+        node::TERNARY => 3,
+        _ => 2,
+    }
+}
+
+// Whether operand j of the node at p lies below it and is no operand yet; it is marked as one then.
+fn takes<'a>(places: &'a [u16; 1536], marks: &mut [u8; 512], p: usize, j: usize) -> bool
+    requires { ⌜ (p < 512) × (j < 3) ⌝ }
+    ensures { λ r. ⌜ Took (getD (now (places .entry)) (3 * p + j) 0) p (now (marks .entry)) (now (marks .exit)) r ⌝ }
+{
+    let q = operand(places, p, j);
+    if p <= q {
+        return false;
+    }
+    if marks[q] != 0 {
+        return false;
+    }
+    marks[q] = 1;
+    true
+}
+
+// Whether the node at p has a known code and takes all the operands that the code uses.
+fn is_node<'a>(
+    codes: &'a [u8; 512],
+    places: &'a [u16; 1536],
+    marks: &mut [u8; 512],
+    p: usize,
+) -> bool
+    requires { ⌜ (p < 512) × Marked (now marks) (used (pool (now codes) (now places) []) p) ⌝ }
+    ensures { λ r. ⌜ Placed (pool (now (codes .entry)) (now (places .entry)) []) p (now (marks .exit)) r ⌝ }
+{
+    let code = codes[p];
+    if node::MODULO < code {
+        return false;
+    }
+    let count = arity(code);
+    let mut j = 0;
+    while j < count {
+        if takes(places, marks, p, j) {
+            j += 1;
+        } else {
+            return false;
+        }
+    }
+    true
+}
+
+// Whether the nodes are a tree. The values are not looked at.
+pub fn is_tree<'a>(codes: &'a [u8; 512], places: &'a [u16; 1536], count: usize, root: usize) -> bool
+    ensures { λ r. ⌜ r ≡ isTree (pool (now (codes .entry)) (now (places .entry)) []) count root ⌝ }
+{
+    if MOST < count {
+        return false;
+    }
+    if count <= root {
+        return false;
+    }
+    let mut marks = [0u8; 512];
+    let mut p = 0;
+    while p < count {
+        if is_node(codes, places, &mut marks, p) {
+            p += 1;
+        } else {
+            return false;
+        }
+    }
+    true
+}
+
+fn truth(b: bool) -> u64
+    ensures { λ r. ⌜ r ≡ truth b ⌝ }
+{
+    if b { 1 } else { 0 }
+}
+
+// Whether the left operand alone settles a binary operator.
+fn settles(code: u8, x: u64) -> bool
+    ensures { λ r. ⌜ r ≡ settled (opOf code) x ⌝ }
+{
+    match code {
+        node::AND => x == 0,
+        node::OR => x != 0,
+        _ => false,
+    }
+}
+
+// A comparison of two numbers.
+fn compares(code: u8, x: u64, y: u64) -> bool
+    ensures { λ r. ⌜ r ≡ compared (cmpOf code) x y ⌝ }
+{
+    match code {
+        node::NOT_EQUAL => x != y,
+        node::GREATER_OR_EQUAL => x >= y,
+        node::SMALLER_OR_EQUAL => x <= y,
+        node::GREATER => x > y,
+        node::SMALLER => x < y,
+        _ => x == y,
+    }
+}
+
+// A binary operator on two numbers.
+fn apply(code: u8, x: u64, y: u64) -> Value
+    ensures { λ r. ⌜ r ≡ binary (opOf code) (Value.Is x) (Value.Is y) ⌝ }
+{
+    if code < node::AND {
+        return Value::Is(truth(compares(code, x, y)));
+    }
+    if code == node::AND {
+        if x == 0 {
+            return Value::Is(0);
+        }
+        return Value::Is(truth(y != 0));
+    }
+    if code == node::OR {
+        if x == 0 {
+            return Value::Is(truth(y != 0));
+        }
+        return Value::Is(1);
+    }
+    if y == 0 {
+        return Value::ZeroModulus;
+    }
+    Value::Is(x % y)
+}
+
+// The value of the tree at a place.
+fn eval<'a>(
+    codes: &'a [u8; 512],
+    places: &'a [u16; 1536],
+    values: &'a [u64; 512],
+    at: usize,
+    n: u64,
+) -> Value
+    requires { ⌜ Sound (pool (now codes) (now places) (now values)) at ⌝ }
+    ensures { λ r. ⌜ r ≡ evalTree (treeOf (pool (now (codes .entry)) (now (places .entry)) (now (values .entry))) at) n ⌝ }
+{
+    let code = codes[at];
+    if code == node::N {
+        return Value::Is(n);
+    }
+    if code == node::INTEGER {
+        return Value::Is(values[at]);
+    }
+    let first = eval(codes, places, values, operand(places, at, 0), n);
+    let Value::Is(x) = first else {
+        return Value::ZeroModulus;
+    };
+    if code == node::NOT {
+        return Value::Is(truth(x == 0));
+    }
+    if code == node::TERNARY {
+        if x == 0 {
+            return eval(codes, places, values, operand(places, at, 2), n);
+        }
+        return eval(codes, places, values, operand(places, at, 1), n);
+    }
+    if settles(code, x) {
+        return apply(code, x, 0);
+    }
+    let second = eval(codes, places, values, operand(places, at, 1), n);
+    let Value::Is(y) = second else {
+        return Value::ZeroModulus;
+    };
+    apply(code, x, y)
+}
+
+// The value of a rule at a count.
+pub fn resolve<'a>(
+    codes: &'a [u8; 512],
+    places: &'a [u16; 1536],
+    values: &'a [u64; 512],
+    count: usize,
+    root: usize,
+    n: u64,
+) -> Resolved
+    ensures { λ r. ⌜ r ≡ resolvedOf (pool (now (codes .entry)) (now (places .entry)) (now (values .entry))) count root n ⌝ }
+{
+    if is_tree(codes, places, count, root) {
+        let value = eval(codes, places, values, root, n);
+        let Value::Is(x) = value else {
+            return Resolved::ZeroModulus;
+        };
+        return Resolved::Form(x);
+    }
+    Resolved::NoTree
+}
+
+fn least(x: u64, y: u64) -> u64
+    ensures { λ r. ⌜ r ≡ min x y ⌝ }
+{
+    if x < y { x } else { y }
+}
+
+fn most(x: u64, y: u64) -> u64
+    ensures { λ r. ⌜ r ≡ max x y ⌝ }
+{
+    if x < y { y } else { x }
+}
+
+// The range of a binary operator, by the highest of the left operand and the range of the right.
+fn ranged(code: u8, h: u64, l: u64, m: u64) -> Rating
+    requires { ⌜ l ≤ m ⌝ }
+    ensures { λ r. ⌜ r ≡ opRange (opOf code) h l m ⌝ }
+{
+    if code < node::MODULO {
+        return Rating::Range(0, 1);
+    }
+    if l == 0 {
+        return Rating::Unrated;
+    }
+    Rating::Range(0, least(h, m - 1))
+}
+
+// The range of the tree at a place.
+fn rate<'a>(
+    codes: &'a [u8; 512],
+    places: &'a [u16; 1536],
+    values: &'a [u64; 512],
+    at: usize,
+) -> Rating
+    requires { ⌜ Sound (pool (now codes) (now places) (now values)) at ⌝ }
+    ensures { λ r. ⌜ r ≡ rateTree (treeOf (pool (now (codes .entry)) (now (places .entry)) (now (values .entry))) at) ⌝ }
+{
+    let code = codes[at];
+    if code == node::N {
+        return Rating::Range(0, LARGEST);
+    }
+    if code == node::INTEGER {
+        let x = values[at];
+        return Rating::Range(x, x);
+    }
+    let first = rate(codes, places, values, operand(places, at, 0));
+    let Rating::Range(_, h) = first else {
+        return Rating::Unrated;
+    };
+    if code == node::NOT {
+        return Rating::Range(0, 1);
+    }
+    let second = rate(codes, places, values, operand(places, at, 1));
+    let Rating::Range(l, m) = second else {
+        return Rating::Unrated; // reached or not
+    };
+    if code != node::TERNARY {
+        return ranged(code, h, l, m);
+    }
+    let third = rate(codes, places, values, operand(places, at, 2));
+    let Rating::Range(p, q) = third else {
+        return Rating::Unrated;
+    };
+    Rating::Range(least(l, p), most(m, q))
+}
+
+// The range of a rule.
+pub fn rating_of<'a>(
+    codes: &'a [u8; 512],
+    places: &'a [u16; 1536],
+    values: &'a [u64; 512],
+    count: usize,
+    root: usize,
+) -> Rated
+    ensures { λ r. ⌜ r ≡ ratedOf (pool (now (codes .entry)) (now (places .entry)) (now (values .entry))) count root ⌝ }
+{
+    if is_tree(codes, places, count, root) {
+        let range = rate(codes, places, values, root);
+        let Rating::Range(lo, hi) = range else {
+            return Rated::Unrated;
+        };
+        return Rated::Range(lo, hi);
+    }
+    Rated::NoTree
+}
+
+// Whether a rule fits k: it is rated, and its highest is below k.
+pub fn fits<'a>(
+    codes: &'a [u8; 512],
+    places: &'a [u16; 1536],
+    values: &'a [u64; 512],
+    count: usize,
+    root: usize,
+    k: u64,
+) -> Fit
+    ensures { λ r. ⌜ r ≡ fitOf (pool (now (codes .entry)) (now (places .entry)) (now (values .entry))) count root k ⌝ }
+{
+    match rating_of(codes, places, values, count, root) {
+        Rated::Range(_, hi) => if hi < k { Fit::Yes } else { Fit::No },
+        Rated::Unrated => Fit::No,
+        Rated::NoTree => Fit::NoTree,
+    }
+}
