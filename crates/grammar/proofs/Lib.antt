@@ -1,0 +1,5 @@
+pub mod Choice
+pub mod Cases
+pub mod Sound
+pub mod Complete
+pub mod Steps

@@ -1,0 +1,10 @@
+mod Table
+mod Rows
+mod Lexed
+mod Nexts
+mod Taken
+mod Levels
+mod Prefixes
+mod Whole
+pub mod Unique
+pub mod Derived
