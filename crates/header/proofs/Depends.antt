@@ -1,0 +1,87 @@
+-- What a header's answer hangs on: whether every line that is not empty has a colon, the last Content-Type and the last Plural-Forms.
+-- Two headers that agree on these give the same label and the same rule, as texts. Assumes nothing.
+use Prim.Native.Nat.{ℕ, _+_, _<_, _≤_}
+use mathlib.Core.Path.{_≡_, refl, sym, ap, ap₂, _∙_}
+use mathlib.Core.Bool.{Bool, true, false}
+use mathlib.Core.List.{List}
+use mathlib.Core.Option.{Option, none, some}
+use native.Mathlib.Omega.{arith}
+use native.Mathlib.Nat.{add-assoc}
+use lib.ListN.{length, getD, take, drop, length-take, length-drop}
+use lib.Seq.{ext-getD, getD-take, getD-drop}
+use Rattle.text.specs.Trim.{six}
+use Rattle.text.specs.Bytes.{bytes}
+use Rattle.text.specs.Cut.{every}
+use Rattle.header.specs.Header.{shift, within, field, lines, lineOk, charset, plural, metadata}
+use Rattle.header.specs.Promise.{endOf, partOf}
+use Rattle.header.specs.declared.Place.{Place}
+use Rattle.header.specs.declared.Place.the-variants.{At, Absent}
+use Rattle.header.specs.declared.Sought.{Sought}
+use Rattle.header.specs.declared.Sought.the-variants.{Charset, Plural}
+use Rattle.header.specs.declared.Metadata.{Metadata}
+use Rattle.header.specs.declared.Metadata.the-variants.{Malformed, Fields}
+use Rattle.header.proofs.Parts.{part-end, field-end}
+
+-- the text at a place
+abbrev pub textAt : List ℕ → Place → Option (List ℕ)
+textAt s (At start len) = some (take len (drop start s))
+textAt s Absent = none
+
+-- a header's answer, as texts
+pub data Texts : Type 0 where
+  malformed : Texts
+  fields : Option (List ℕ) → Option (List ℕ) → Texts
+
+abbrev pub texts : List ℕ → Metadata → Texts
+texts h Malformed = malformed
+texts h (Fields label rule) = fields (textAt h label) (textAt h rule)
+
+-- a part of a part
+part-of-part : (s : List ℕ) (start len a n : ℕ) → start + len ≤ length s → a + n ≤ len → take n (drop (start + a) s) ≡ take n (drop a (take len (drop start s)))
+part-of-part s start len a n h k =
+    ext-getD 0 _ _
+    (omega (arith, length-take n (drop (start + a) s), length-drop (start + a) s, length-take n (drop a (take len (drop start s))), length-drop a (take len (drop start s)), length-take len (drop start s), length-drop start s))
+    (λ i l. same i (omega (arith, length-take n (drop (start + a) s))))
+  where
+    same : (i : ℕ) → i < n → getD (take n (drop (start + a) s)) i 0 ≡ getD (take n (drop a (take len (drop start s)))) i 0
+    same i l =
+        let j : a + i < len = omega arith in
+        getD-take n (drop (start + a) s) i 0 l ∙ getD-drop (start + a) s i 0 ∙ ap (λ (m : ℕ). getD s m 0) (add-assoc start a i)
+        ∙ sym (getD-take n (drop a (take len (drop start s))) i 0 l ∙ getD-drop a (take len (drop start s)) i 0 ∙ getD-take len (drop start s) (a + i) 0 j ∙ getD-drop start s (a + i) 0)
+
+inside : (s : List ℕ) (start len : ℕ) (p : Place) → start + len ≤ length s → endOf p ≤ len → textAt s (shift start p) ≡ textAt (take len (drop start s)) p
+inside s start len (At a n) h k = ap some (part-of-part s start len a n h k)
+inside s start len Absent h k = refl
+
+-- what is sought in the value v, as a text
+pub soughtIn : Sought → Option (List ℕ) → Option (List ℕ)
+soughtIn k none = none
+soughtIn k (some v) = textAt v (partOf k v)
+
+sought-text : (k : Sought) (h : List ℕ) (p : Place) → endOf p ≤ length h → textAt h (within h p (partOf k)) ≡ soughtIn k (textAt h p)
+unfolding soughtIn
+sought-text k h (At start len) l = inside h start len (partOf k (take len (drop start h))) l (omega (arith, part-end k (take len (drop start h)), length-take len (drop start h)))
+sought-text k h Absent l = refl
+
+-- the answer, by those three
+pub answer : Bool → Option (List ℕ) → Option (List ℕ) → Texts
+answer true content plurals = fields (soughtIn Charset content) (soughtIn Plural plurals)
+answer false content plurals = malformed
+
+abbrev pub valueOf : List ℕ → List ℕ → Option (List ℕ)
+valueOf name h = textAt h (field six name h)
+
+pub answer-is : (h : List ℕ) → texts h (metadata six h) ≡ answer (every lineOk (lines h)) (valueOf (bytes "Content-Type") h) (valueOf (bytes "Plural-Forms") h)
+unfolding metadata answer
+answer-is h = go (every lineOk (lines h))
+  where
+    go : (b : Bool) → texts h (elim b [
+      | true ↦ Fields (within h (field six (bytes "Content-Type") h) charset) (within h (field six (bytes "Plural-Forms") h) (plural six))
+      | false ↦ Malformed
+    ]) ≡ answer b (valueOf (bytes "Content-Type") h) (valueOf (bytes "Plural-Forms") h)
+    go true = ap₂ fields (sought-text Charset h (field six (bytes "Content-Type") h) (field-end (bytes "Content-Type") h)) (sought-text Plural h (field six (bytes "Plural-Forms") h) (field-end (bytes "Plural-Forms") h))
+    go false = refl
+
+pub depends : (g h : List ℕ) → every lineOk (lines g) ≡ every lineOk (lines h) → valueOf (bytes "Content-Type") g ≡ valueOf (bytes "Content-Type") h
+    → valueOf (bytes "Plural-Forms") g ≡ valueOf (bytes "Plural-Forms") h → texts g (metadata six g) ≡ texts h (metadata six h)
+depends g h e f k = answer-is g ∙ rw (e, f, k) (sym (answer-is h))
