@@ -1,14 +1,13 @@
 -- What a header's answer hangs on: whether every line that is not empty has a colon, the last Content-Type and the last Plural-Forms.
 -- Two headers that agree on these give the same label and the same rule, as texts. Assumes nothing.
-use Prim.Native.Nat.{ℕ, _+_, _<_, _≤_}
+use Prim.Native.Nat.{ℕ, _+_, _≤_}
 use mathlib.Core.Path.{_≡_, refl, sym, ap, ap₂, _∙_}
 use mathlib.Core.Bool.{Bool, true, false}
 use mathlib.Core.List.{List}
 use mathlib.Core.Option.{Option, none, some}
 use native.Mathlib.Omega.{arith}
-use native.Mathlib.Nat.{add-assoc}
-use lib.ListN.{length, getD, take, drop, length-take, length-drop}
-use lib.Seq.{ext-getD, getD-take, getD-drop}
+use lib.ListN.{length, take, drop, length-take}
+use Rattle.text.proofs.Parts.{part-of-part}
 use Rattle.text.specs.Trim.{six}
 use Rattle.text.specs.Bytes.{bytes}
 use Rattle.text.specs.Cut.{every}
@@ -35,19 +34,6 @@ pub data Texts : Type 0 where
 abbrev pub texts : List ℕ → Metadata → Texts
 texts h Malformed = malformed
 texts h (Fields label rule) = fields (textAt h label) (textAt h rule)
-
--- a part of a part
-part-of-part : (s : List ℕ) (start len a n : ℕ) → start + len ≤ length s → a + n ≤ len → take n (drop (start + a) s) ≡ take n (drop a (take len (drop start s)))
-part-of-part s start len a n h k =
-    ext-getD 0 _ _
-    (omega (arith, length-take n (drop (start + a) s), length-drop (start + a) s, length-take n (drop a (take len (drop start s))), length-drop a (take len (drop start s)), length-take len (drop start s), length-drop start s))
-    (λ i l. same i (omega (arith, length-take n (drop (start + a) s))))
-  where
-    same : (i : ℕ) → i < n → getD (take n (drop (start + a) s)) i 0 ≡ getD (take n (drop a (take len (drop start s)))) i 0
-    same i l =
-        let j : a + i < len = omega arith in
-        getD-take n (drop (start + a) s) i 0 l ∙ getD-drop (start + a) s i 0 ∙ ap (λ (m : ℕ). getD s m 0) (add-assoc start a i)
-        ∙ sym (getD-take n (drop a (take len (drop start s))) i 0 l ∙ getD-drop a (take len (drop start s)) i 0 ∙ getD-take len (drop start s) (a + i) 0 j ∙ getD-drop start s (a + i) 0)
 
 inside : (s : List ℕ) (start len : ℕ) (p : Place) → start + len ≤ length s → endOf p ≤ len → textAt s (shift start p) ≡ textAt (take len (drop start s)) p
 inside s start len (At a n) h k = ap some (part-of-part s start len a n h k)

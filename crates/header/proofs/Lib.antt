@@ -2,5 +2,6 @@ pub mod Places
 pub mod Lines
 pub mod Labels
 pub mod Parts
+pub mod Ends
 pub mod Depends
 pub mod Unique

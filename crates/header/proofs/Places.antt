@@ -21,7 +21,7 @@ use Rattle.header.specs.declared.Place.{Place}
 use Rattle.header.specs.declared.Place.the-variants.{At, Absent}
 
 -- a place ends where it does, moved k on
-shift-end : (k n m : ℕ) (p : Place) → endOf p ≤ n → k + n ≤ m → endOf (shift k p) ≤ m
+pub shift-end : (k n m : ℕ) (p : Place) → endOf p ≤ n → k + n ≤ m → endOf (shift k p) ≤ m
 shift-end k n m (At a l) h i = omega arith
 shift-end k n m Absent h i = omega arith
 

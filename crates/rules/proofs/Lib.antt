@@ -8,5 +8,6 @@ pub mod Answers
 pub mod Stored
 pub mod StoredTree
 pub mod Forms
-mod Unique
+pub mod ReadOnce
+pub mod Unique
 mod Cases

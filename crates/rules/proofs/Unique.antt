@@ -2,11 +2,11 @@
 -- as the check reads it from the source; the arrays that `put` is lent count as its result.
 use Prim.Native.Nat.{ℕ}
 use mathlib.Core.Path.{_≡_, sym, ap₂, _∙_}
-use mathlib.Core.List.{List}
 use contract.Lifetimes.{Lfts}
 use denote.Triple.Clauses.{AtExit}
+use Rattle.promise.proofs.One.{One}
 use denote.Ref.{now}
-use borrow.Fn.Kinds.{PK, RK, Out, Dens, resT, endedOf}
+use borrow.Fn.Kinds.{Dens, resT, endedOf}
 use Rattle.rules.specs.declared.Rule.{Rule}
 use Rattle.rules.specs.Pool.{Pool, pool}
 use Rattle.rules.proofs.is_tree.Reads as is-tree
@@ -22,11 +22,6 @@ use Rattle.rules.proofs.default_rule.Kinds as default-rule-kinds
 use Rattle.rules.proofs.put.Reads as put
 use Rattle.rules.proofs.put.Kinds as put-kinds
 
--- a promise allows one result
-abbrev pub One : (n : ℕ) (ps : List (PK n)) (r : RK n) → Out n ps r → Type 0
-One n ps r Post =
-    (κs : Lfts n) (a : Dens κs ps) (u v : resT r κs .Denot) (x y : AtExit (endedOf n ps r) κs) → Post κs a u x → Post κs a v y → u ≡ v
-
 pub is-tree-one : One 1 is-tree-kinds.ps is-tree-kinds.r is-tree.Post
 is-tree-one κs a u v x y p q = p ∙ sym q
 
@@ -39,7 +34,7 @@ rating-one κs a u v x y p q = p ∙ sym q
 pub fits-one : One 1 fits-kinds.ps fits-kinds.r fits.Post
 fits-one κs a u v x y p q = p ∙ sym q
 
-abbrev made : Pool → ℕ → Rule
+abbrev pub made : Pool → ℕ → Rule
 made P count = record { codes = P .codes; places = P .places; values = P .values; count = count }
 
 pub default-one : One 0 default-rule-kinds.ps default-rule-kinds.r default-rule.Post

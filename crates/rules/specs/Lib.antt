@@ -4,4 +4,5 @@ pub mod Range
 pub mod Pool
 pub mod Store
 pub mod Answer
+pub mod Reads
 pub mod Walk

@@ -12,13 +12,14 @@ use Rattle.rules.specs.declared.Nodes.the-variants.{Read, NoReading}
 use Rattle.grammar.specs.Grammar.{full, Derives}
 use Rattle.grammar.specs.Tokens.{tokens}
 use Rattle.grammar.proofs.Complete.{agrees}
-use Rattle.standard.specs.Standard.{Stored, Answered}
+use Rattle.rules.specs.Reads.{Stored, Answered}
+use Rattle.grammar.specs.Reading.{standard}
 
 module _ {s : List ℕ} {P Q : Pool} where
-  pub derived : {t : Tree} {r : Nodes} → Derives full (tokens s) t → Answered s P Q r → Stored t s P Q r
+  pub derived : {t : Tree} {r : Nodes} → Derives full (tokens s) t → Answered (standard s) s P Q r → Stored t s P Q r
   derived {t} d a = rw (agrees s t .1 d) at (a .read)
 
-  pub underived : Answered s P Q NoReading → (t : Tree) → Derives full (tokens s) t → ⊥
+  pub underived : Answered (standard s) s P Q NoReading → (t : Tree) → Derives full (tokens s) t → ⊥
   underived a t d =
       let e : NoReading ≡ Read (size t) = derived d a .answer in
       let z : _≡_ {A = ℕ} 0 1 = cc in

@@ -1,21 +1,17 @@
--- The promise of `standard` allows one result: a text with a tree fixes the answer and every array, since storing is a function of the
--- tree; a text without one fixes the answer, and the arrays are then of no use.
-use Prim.Native.Nat.{ℕ}
-use mathlib.Core.Path.{_≡_, sym, _∙_}
-use mathlib.Core.List.{List}
-use Rattle.rules.specs.Tree.{Reading, tree, none}
-use Rattle.rules.specs.Pool.{Pool}
-use Rattle.rules.specs.declared.Nodes.{Nodes}
+-- The promise of `standard` allows one result: the reading is a function of the text, and rules' law holds of any reading. `Post` is the
+-- promise as the check reads it from the source. Assumes nothing.
+use contract.Lifetimes.{Lfts}
+use denote.Triple.Clauses.{AtExit}
+use denote.Ref.{now}
+use borrow.Fn.Kinds.{Dens, resT, endedOf}
+use Rattle.rules.specs.Pool.{pool}
+use Rattle.rules.proofs.ReadOnce.{Same, unique}
 use Rattle.grammar.specs.Reading.{standard}
-use Rattle.standard.specs.Standard.{Answer, Answered}
+use Rattle.standard.proofs.standard.Reads as reads
+use Rattle.standard.proofs.standard.Kinds as kinds
 
-abbrev pub Same : Reading → Pool → Pool → Nodes → Nodes → Type 0
-Same (tree t) Q S r v = (r ≡ v) × (Q ≡ S)
-Same none Q S r v = r ≡ v
-
-same : (x : Reading) (s : List ℕ) (P Q S : Pool) (r v : Nodes) → Answer x s P Q r → Answer x s P S v → Same x Q S r v
-same (tree t) s P Q S r v a b = (a .answer ∙ sym (b .answer), a .stored ∙ sym (b .stored))
-same none s P Q S r v a b = a ∙ sym b
-
-pub unique : {s : List ℕ} {P Q S : Pool} {r v : Nodes} → Answered s P Q r → Answered s P S v → Same (standard s) Q S r v
-unique {s} {P} {Q} {S} {r} {v} a b = same (standard s) s P Q S r v (a .read) (b .read)
+pub standard-one : (κs : Lfts 4) (a : Dens κs kinds.ps) (u v : resT kinds.r κs .Denot) (x y : AtExit (endedOf 4 kinds.ps kinds.r) κs)
+    → reads.Post κs a u x → reads.Post κs a v y
+    → Same (standard (now (a .0))) (pool (now (x .1 .0)) (now (x .1 .1 .0)) (now (x .1 .1 .1 .0)))
+    (pool (now (y .1 .0)) (now (y .1 .1 .0)) (now (y .1 .1 .1 .0))) u v
+standard-one κs a u v x y p q = unique (standard (now (a .0))) p q

@@ -11,19 +11,19 @@ use Rattle.grammar.specs.Tokens.{tokens}
 use Rattle.grammar.specs.Reading.{standard}
 use Rattle.standard.specs.declared.Part.the-variants.{Got, Bad}
 use Rattle.standard.specs.Wrote.{LevelWrote}
-use Rattle.standard.specs.Standard.{Answered}
+use Rattle.rules.specs.Reads.{Answered}
 use Rattle.standard.proofs.Taken.{level-taken, level-refused}
 
 module _ {s : List ℕ} {P Q : Pool} where
-  pub whole-bad : LevelWrote full s 0 0 P Q Bad → Answered s P Q NoReading
+  pub whole-bad : LevelWrote full s 0 0 P Q Bad → Answered (standard s) s P Q NoReading
   unfolding standard
   whole-bad w = record { read = rw (level-refused w) refl }
 
-  pub whole-rest : {k q : ℕ} {x : Token} {r : List Token} → LevelWrote full s 0 0 P Q (Got k q) → tokens (drop q s) ≡ x ∷ r → Answered s P Q NoReading
+  pub whole-rest : {k q : ℕ} {x : Token} {r : List Token} → LevelWrote full s 0 0 P Q (Got k q) → tokens (drop q s) ≡ x ∷ r → Answered (standard s) s P Q NoReading
   unfolding standard
   whole-rest w e = record { read = rw (level-taken w .is, e) refl }
 
-  pub whole-end : {k q : ℕ} → LevelWrote full s 0 0 P Q (Got k q) → tokens (drop q s) ≡ [] → Answered s P Q (Read k)
+  pub whole-end : {k q : ℕ} → LevelWrote full s 0 0 P Q (Got k q) → tokens (drop q s) ≡ [] → Answered (standard s) s P Q (Read k)
   unfolding standard
   whole-end {k} w e =
       let g = level-taken w in

@@ -1,3 +1,2 @@
-pub mod Standard
 pub mod Scan
 pub mod Wrote

@@ -11,7 +11,8 @@ ghost use Rattle.grammar.specs.Grammar.{rank, full};
 ghost use Rattle.grammar.specs.Tokens.{digit};
 ghost use Rattle.standard.specs.Scan.{Operator, NextRead, PassRead, Skipped, RunRead, PairRead, SingleRead};
 ghost use Rattle.standard.specs.Wrote.{Room, LevelWrote, MoreWrote, PrefixWrote};
-ghost use Rattle.standard.specs.Standard.{Answered};
+ghost use Rattle.rules.specs.Reads.{Answered};
+ghost use Rattle.grammar.specs.Reading.{standard};
 
 // The next token and the position after it: an operator by its code, an integer of 64 bits or Huge, or any other byte.
 enum Next {
@@ -339,7 +340,7 @@ pub fn standard(
     values: &mut [u64; 512],
 ) -> Nodes
     requires { ⌜ length (now s) ≤ 512 ⌝ }
-    ensures { λ r. ⌜ Answered (now (s .entry))
+    ensures { λ r. ⌜ Answered (standard (now (s .entry))) (now (s .entry))
         (pool (now (codes .entry)) (now (places .entry)) (now (values .entry)))
         (pool (now (codes .exit)) (now (places .exit)) (now (values .exit))) r ⌝ }
 {

@@ -16,10 +16,10 @@ use Rattle.text.proofs.Trimming.{front-length}
 use Rattle.text.proofs.Texts.{Pieces, cut-at, cut-on, cut-some}
 
 module _ (x : ℕ) where
-  at-once : (b : ℕ) (s : List ℕ) → eqb b x ≡ true → place x (b ∷ s) ≡ 0
+  pub at-once : (b : ℕ) (s : List ℕ) → eqb b x ≡ true → place x (b ∷ s) ≡ 0
   at-once b s e = front-out (λ c. not (eqb c x)) b s (ap not e)
 
-  goes-on : (b : ℕ) (s : List ℕ) → eqb b x ≡ false → place x (b ∷ s) ≡ suc (place x s)
+  pub goes-on : (b : ℕ) (s : List ℕ) → eqb b x ≡ false → place x (b ∷ s) ≡ suc (place x s)
   goes-on b s e = front-in (λ c. not (eqb c x)) b s (ap not e)
 
   pub place-length : (s : List ℕ) → place x s ≤ length s

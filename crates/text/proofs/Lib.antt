@@ -9,6 +9,8 @@ pub mod Sought
 pub mod Chars
 pub mod Texts
 pub mod Cuts
+pub mod Placed
+pub mod Parts
 pub mod Scalars
 pub mod Middle
 pub mod Unique

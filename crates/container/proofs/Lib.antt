@@ -1,0 +1,7 @@
+pub mod Rules
+pub mod Headers
+pub mod Rest
+pub mod Loading
+pub mod Accepted
+mod Cases
+mod Unique

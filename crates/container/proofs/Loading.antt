@@ -1,0 +1,212 @@
+-- The stages of the load put together. Assumes nothing.
+use Prim.Native.Nat.{ℕ, zero, suc, _+_, _-_, _≤_}
+use mathlib.Core.Path.{_≡_, refl, sym, ap, _∙_}
+use mathlib.Core.Bool.{Bool}
+use mathlib.Core.List.{List}
+use native.Mathlib.Omega.{arith}
+use lib.ListN.{length}
+use Rattle.rules.specs.Tree.{Tree}
+use Rattle.rules.proofs.Stored.{size-pos}
+use Rattle.messages.specs.Messages.{headOf, readAt}
+use Rattle.container.specs.Catalog.{Step, next, stop, andThen, forcedRule, ruleIn, entryStep, entriesFrom, Answer, refused, answered, catalog, loadWith, load}
+use Rattle.container.specs.Promise.{Holds, Loads, Refuses, Gives, Chooses, stepOutcome, treeOf, headOutcome, readOutcome, goOn, restFrom, headerAt, firstOf, firstRule, endOfRule}
+use Rattle.messages.specs.declared.Error.{Error}
+use Rattle.container.specs.declared.Options.{Options}
+use Rattle.container.specs.declared.Outcome.{Outcome}
+use Rattle.container.specs.declared.Outcome.the-variants as outcome
+use Rattle.container.specs.declared.Loaded as loaded
+use Rattle.container.specs.declared.Record.{Record}
+use Rattle.container.specs.declared.Ruled.{Ruled}
+use Rattle.messages.specs.declared.Head.{Head}
+use Rattle.messages.specs.declared.Head.the-variants as head
+use Rattle.messages.specs.declared.Read.{Read}
+use Rattle.messages.specs.declared.Read.the-variants as read
+use Rattle.container.specs.declared.First.{First}
+use Rattle.container.specs.declared.First.the-variants as first
+use Rattle.container.proofs.Headers.{header-rule, at-end}
+use Rattle.messages.proofs.Entries.{header-inside, header-first}
+
+-- a refusal, as an answer
+pub refusing : (a : Answer) {x : Error} {b : Outcome} {r : loaded.Loaded} → a ≡ refused x → b ≡ outcome.Refused x → Refuses b r → Loads a r
+refusing a e f g = rw e (record { outcome-is = g .outcome-is ∙ f; keeps = g .empty })
+
+-- a stage that handed on its rule, and one that did not
+went-on : (a : Step) → stepOutcome a ≡ outcome.Loaded → a ≡ next (treeOf a)
+went-on (next t) e = refl
+went-on (stop x) e = absurd (let z : _≡_ {A = ℕ} 0 1 = cc in omega arith)
+
+stopped : (a : Step) {x : Error} → stepOutcome a ≡ outcome.Refused x → a ≡ stop x
+stopped (next t) e = absurd (let z : _≡_ {A = ℕ} 0 1 = cc in omega arith)
+stopped (stop y) {x} e = let q : y ≡ x = cc in rw q
+
+headless : (h : Head) {x : Error} → h ≡ head.Refused x → headOutcome h ≡ outcome.Refused x
+headless h e = rw e
+
+-- how the rest stands, as a stage
+abbrev pub stepOf : Outcome → Tree → Step
+stepOf outcome.Loaded t = next t
+stepOf (outcome.Refused x) t = stop x
+
+module _ (o : Options) (s : List ℕ) (b : Bool) (x y : ℕ) where
+  -- one entry after entry 0 hands on the rule as it is
+  passed : (i : ℕ) (t : Tree) (q : Read) (rest : Outcome) (f : Tree → Step) → ((a l : ℕ) → q ≡ read.Header a l → ⊥) → f t ≡ stepOf rest t
+      → andThen (entryStep o s t q) f ≡ stepOf (goOn (readOutcome q) rest) t
+  unfolding entryStep
+  passed i t (read.Refused e) rest f n g = refl
+  passed i t read.Message rest f n g = g
+  passed i t (read.Header a l) rest f n g = absurd (n a l refl)
+
+  rest-steps : (k i : ℕ) (t : Tree) → 1 ≤ i → entriesFrom o s b x y k i t ≡ stepOf (restFrom b s x y k i) t
+  unfolding entriesFrom restFrom
+  rest-steps zero i t h = refl
+  rest-steps (suc k) i t h =
+      passed i t (readAt b s x y i) (restFrom b s x y k (suc i)) (entriesFrom o s b x y k (suc i))
+      (λ a l e. omega (arith, header-first b s x y i e))
+      (rest-steps k (suc i) t (omega arith))
+
+  -- entry 0
+  first-step : (t : Tree) (q : Read) → ((a l : ℕ) → q ≡ read.Header a l → a + l + 1 ≤ length s) → ruleIn (o .reading) s t (firstOf o s q) ≡ entryStep o s t q
+  unfolding entryStep
+  first-step t (read.Refused e) n = refl
+  first-step t read.Message n = refl
+  first-step t (read.Header a l) n = header-rule s a l (omega (arith, n a l refl)) o t
+
+  pub first-end : (count : ℕ) → endOfRule (firstRule o s b x y count) ≤ length s
+  unfolding firstRule
+  first-end zero = omega arith
+  first-end (suc k) = ends (readAt b s x y 0) (λ a l e. header-inside b s x y 0 e)
+    where
+      ends : (q : Read) → ((a l : ℕ) → q ≡ read.Header a l → a + l + 1 ≤ length s) → endOfRule (firstOf o s q) ≤ length s
+      ends (read.Refused e) n = omega arith
+      ends read.Message n = omega arith
+      ends (read.Header a l) n = at-end s a l (omega (arith, n a l refl)) o
+
+  onwards : (a : Step) (rest : Outcome) (f : Tree → Step) → ((t : Tree) → f t ≡ stepOf rest t) → andThen a f ≡ andThen a (stepOf rest)
+  onwards (next t) rest f g = g t
+  onwards (stop e) rest f g = refl
+
+  -- all entries: the rule of entry 0, then the rest
+  pub all-entries : (count : ℕ) (t : Tree) → entriesFrom o s b x y count 0 t ≡ andThen (ruleIn (o .reading) s t (firstRule o s b x y count)) (stepOf (restFrom b s x y (count - 1) 1))
+  unfolding entriesFrom firstRule restFrom
+  all-entries zero t = refl
+  all-entries (suc k) t =
+      let z : suc k - 1 ≡ k = omega arith in
+      ap (λ (a : Step). andThen a (entriesFrom o s b x y k 1)) (sym (first-step t (readAt b s x y 0) (λ a l e. header-inside b s x y 0 e)))
+      ∙ onwards (ruleIn (o .reading) s t (firstOf o s (readAt b s x y 0))) (restFrom b s x y k 1) (entriesFrom o s b x y k 1) (λ u. rest-steps k 1 u (omega arith))
+      ∙ rw z
+
+-- entry 0 as the code meets it
+module _ (o : Options) (s : List ℕ) (b : Bool) (x y : ℕ) where
+  pub none-first : {count : ℕ} → count ≡ 0 → first.NoRule ≡ firstRule o s b x y count
+  unfolding firstRule
+  none-first e = rw e
+
+  some-first : (count : ℕ) → (count ≡ 0 → ⊥) → firstRule o s b x y count ≡ firstOf o s (readAt b s x y 0)
+  unfolding firstRule
+  some-first zero n = absurd (n refl)
+  some-first (suc k) n = refl
+
+  module _ {count : ℕ} (n : count ≡ 0 → ⊥) {q : Read} (e : q ≡ readAt b s x y 0) where
+    pub first-told : {p : Read} → q ≡ p → firstOf o s p ≡ firstRule o s b x y count
+    first-told f = sym (some-first count n ∙ ap (firstOf o s) (sym e ∙ f))
+
+    pub first-header : {a l : ℕ} {r : First} → q ≡ read.Header a l → r ≡ headerAt o s a l → r ≡ firstRule o s b x y count
+    first-header f g = g ∙ first-told f
+
+pub header-fits : (s : List ℕ) (b : Bool) (x y : ℕ) {q : Read} {a l : ℕ} → q ≡ readAt b s x y 0 → q ≡ read.Header a l → a + l ≤ length s
+header-fits s b x y e f = omega (arith, header-inside b s x y 0 (sym e ∙ f))
+
+-- the load, stage by stage
+module _ (o : Options) (f s : List ℕ) {forced : Ruled} (g : Gives (forcedRule o f) forced) where
+  pub forced-refused : {e : Error} {r : loaded.Loaded} → forced .outcome ≡ outcome.Refused e → Refuses (forced .outcome) r → Loads (load o f s) r
+  unfolding load
+  forced-refused {e} q w =
+      refusing (load o f s) (ap (loadWith o s) (stopped (forcedRule o f) (sym (g .outcome-is) ∙ q))) q w
+
+  module _ (p : forced .outcome ≡ outcome.Loaded) where
+    so-far : forcedRule o f ≡ next (treeOf (forcedRule o f))
+    so-far = went-on (forcedRule o f) (sym (g .outcome-is) ∙ p)
+
+    at-head : {h : Head} → h ≡ headOf s → load o f s ≡ catalog o s (treeOf (forcedRule o f)) h
+    unfolding load
+    at-head e = ap (loadWith o s) so-far ∙ ap (catalog o s (treeOf (forcedRule o f))) (sym e)
+
+    pub head-refused : {h : Head} {e : Error} {b : Outcome} {r : loaded.Loaded} → h ≡ headOf s → h ≡ head.Refused e → b ≡ headOutcome h → Refuses b r → Loads (load o f s) r
+    head-refused {h} {e} q w v z = refusing (load o f s) (at-head q ∙ ap (catalog o s (treeOf (forcedRule o f))) w) (v ∙ headless h w) z
+
+    module _ {b : Bool} {k x y : ℕ} {h : Head} (q : h ≡ headOf s) (w : h ≡ head.Fields b k x y)
+        {first : First} (u : first ≡ firstRule o s b x y k) where
+      pub rule-inside : endOfRule first ≤ length s
+      rule-inside = rw u (first-end o s b x y k)
+
+      before : Gives (next (treeOf (forcedRule o f))) forced
+      before = rw so-far at g
+
+      at-entries : load o f s ≡ answered (length s) b k x y (andThen (ruleIn (o .reading) s (treeOf (forcedRule o f)) first) (stepOf (restFrom b s x y (k - 1) 1)))
+      at-entries =
+          at-head q ∙ ap (catalog o s (treeOf (forcedRule o f))) w
+          ∙ ap (answered (length s) b k x y) (all-entries o s b x y k (treeOf (forcedRule o f)))
+          ∙ ap (λ (z : First). answered (length s) b k x y (andThen (ruleIn (o .reading) s (treeOf (forcedRule o f)) z) (stepOf (restFrom b s x y (k - 1) 1)))) (sym u)
+
+      module _ {ruled : Ruled} (c : Chooses (o .reading) s first forced ruled) where
+        abbrev pub stage : Step
+        stage = ruleIn (o .reading) s (treeOf (forcedRule o f)) first
+
+        gives : Gives stage ruled
+        gives = c .chosen (treeOf (forcedRule o f)) before
+
+        pub rule-stopped : {e : Error} {r : loaded.Loaded} → ruled .outcome ≡ outcome.Refused e → Refuses (ruled .outcome) r → Loads (load o f s) r
+        rule-stopped {e} i j =
+            refusing (load o f s)
+            (at-entries ∙ ap (λ (a : Step). answered (length s) b k x y (andThen a (stepOf (restFrom b s x y (k - 1) 1)))) (stopped stage (sym (gives .outcome-is) ∙ i)))
+            i
+            j
+
+        module _ (i : ruled .outcome ≡ outcome.Loaded) {rest : Outcome} (j : rest ≡ restFrom b s x y (k - 1) 1) where
+          chosen : stage ≡ next (treeOf stage)
+          chosen = went-on stage (sym (gives .outcome-is) ∙ i)
+
+          at-rest : load o f s ≡ answered (length s) b k x y (stepOf rest (treeOf stage))
+          at-rest =
+              at-entries ∙ ap (λ (a : Step). answered (length s) b k x y (andThen a (stepOf (restFrom b s x y (k - 1) 1)))) chosen
+              ∙ ap (λ (a : Outcome). answered (length s) b k x y (stepOf a (treeOf stage))) (sym j)
+
+          pub rest-refused : {e : Error} {r : loaded.Loaded} → rest ≡ outcome.Refused e → Refuses rest r → Loads (load o f s) r
+          rest-refused v z = refusing (load o f s) (at-rest ∙ ap (λ (a : Outcome). answered (length s) b k x y (stepOf a (treeOf stage))) v) v z
+
+          pub nodes-some : 1 ≤ ruled .rule .count
+          nodes-some = omega (arith, gives .count, size-pos (treeOf stage))
+
+          -- the record that the code makes
+          abbrev pub made : Record
+          made =
+              record {
+                length = length s;
+                big = b;
+                count = k;
+                originals = x;
+                translations = y;
+                codes = ruled .rule .codes;
+                places = ruled .rule .places;
+                values = ruled .rule .values;
+                nodes = ruled .rule .count;
+                root = ruled .rule .count - 1;
+              }
+
+          holds : Holds (length s) b k x y (treeOf stage) made
+          holds =
+              record {
+                size-is = refl;
+                order-is = refl;
+                count-is = refl;
+                originals-at = refl;
+                translations-at = refl;
+                rule-is = gives .nodes;
+                nodes-are = gives .count;
+                root-is = ap (λ (n : ℕ). n - 1) (gives .count);
+              }
+
+          pub is-loaded : {r : loaded.Loaded} → rest ≡ outcome.Loaded → r .outcome ≡ outcome.Loaded → r .record ≡ made → Loads (load o f s) r
+          is-loaded v z n =
+              rw (at-rest ∙ ap (λ (a : Outcome). answered (length s) b k x y (stepOf a (treeOf stage))) v)
+              (record { outcome-is = z; keeps = rw n holds })

@@ -1,0 +1,79 @@
+-- The stages that read a rule, and what the load's stages say of one another's values. Assumes nothing.
+use Prim.Native.Nat.{ℕ, _+_, _-_, _^_, _<_, _≤_}
+use mathlib.Core.Path.{_≡_, refl, ap, _∙_}
+use mathlib.Core.Bool.{true, false}
+use mathlib.Core.List.{List}
+use native.Mathlib.Omega.{arith}
+use lib.ListN.{take, drop}
+use Rattle.text.proofs.Tests.{taken, left}
+use Rattle.rules.specs.Pool.{pool}
+use Rattle.rules.specs.Store.{store, size, blank}
+use Rattle.plurals.specs.Plurals.{Parse, rule, pluralParsing, ruleTooLong, poolFull, outcomeOf, treeIn, defaultTree}
+use Rattle.plurals.specs.declared.Reading.{Reading}
+use Rattle.plurals.specs.declared.Parsed.{Parsed}
+use Rattle.container.specs.Catalog as load
+use Rattle.container.specs.Catalog.{next, stop, ruled, forcedRule}
+use Rattle.container.specs.Promise.{Gives, Chooses, stepOutcome, treeOf, parsedOutcome, endOfRule}
+use Rattle.messages.specs.declared.Error.{Error}
+use Rattle.container.specs.declared.Options.{Options}
+use Rattle.container.specs.declared.Outcome.{Outcome}
+use Rattle.container.specs.declared.Ruled.{Ruled}
+use Rattle.container.specs.declared.First.{First}
+use Rattle.container.specs.declared.First.the-variants as first
+
+pub three : 3 ≡ size defaultTree
+unfolding size
+three = refl
+
+pub two : 2 ≡ size defaultTree - 1
+unfolding size
+two = refl
+
+-- a rule that was read: how the load stands, and the tree
+read-outcome : (p : Parse) → parsedOutcome (outcomeOf p) ≡ stepOutcome (ruled (outcomeOf p) (treeIn p))
+read-outcome (rule t) = refl
+read-outcome pluralParsing = refl
+read-outcome ruleTooLong = refl
+read-outcome poolFull = refl
+
+read-tree : (p : Parse) → treeIn p ≡ treeOf (ruled (outcomeOf p) (treeIn p))
+read-tree (rule t) = refl
+read-tree pluralParsing = refl
+read-tree ruleTooLong = refl
+read-tree poolFull = refl
+
+pub outcome-read : (p : Parse) {q : Parsed} {b : Outcome} → q ≡ outcomeOf p → b ≡ parsedOutcome q → b ≡ stepOutcome (ruled (outcomeOf p) (treeIn p))
+outcome-read p e f = f ∙ ap parsedOutcome e ∙ read-outcome p
+
+pub nodes-read : (p : Parse) {c x v : List ℕ} → pool c x v ≡ store (treeIn p) 0 blank → pool c x v ≡ store (treeOf (ruled (outcomeOf p) (treeIn p))) 0 blank
+nodes-read p e = rw (← read-tree p) e
+
+pub count-read : (p : Parse) {n : ℕ} → n ≡ size (treeIn p) → n ≡ size (treeOf (ruled (outcomeOf p) (treeIn p)))
+count-read p e = rw (← read-tree p) e
+
+-- a forced rule is read, else the default stands
+pub forced-read : (o : Options) (s : List ℕ) {r : Ruled} → o .forced ≡ true → Gives (load.rule (o .reading) s) r → Gives (forcedRule o s) r
+forced-read o s e g = let z : forcedRule o s ≡ load.rule (o .reading) s = taken _ _ e in rw z g
+
+pub none-forced : (o : Options) (s : List ℕ) {r : Ruled} → o .forced ≡ false → Gives (next defaultTree) r → Gives (forcedRule o s) r
+none-forced o s e g = let z : forcedRule o s ≡ next defaultTree = left _ _ e in rw z g
+
+-- a place that is counted from k bytes earlier
+pub rule-moves : (k : ℕ) {f : First} {a l : ℕ} → f ≡ first.Rule a l → k + endOfRule f < 2 ^ 64 → k + a < 2 ^ 64
+rule-moves k {f} {a} {l} e h = let z : k + (a + l) < 2 ^ 64 = rw e at h in omega arith
+
+-- the header's rule takes the place of the one before
+pub rule-end : {f : First} {a l : ℕ} → f ≡ first.Rule a l → (n : ℕ) → endOfRule f ≤ n → a + l ≤ n
+rule-end e n h = rw e at h
+
+pub rule-there : (reading : Reading) (s : List ℕ) {f : First} {a l : ℕ} {before r : Ruled} → f ≡ first.Rule a l
+    → Gives (load.rule reading (take (a + l - a) (drop a s))) r → Chooses reading s f before r
+rule-there reading s {f} {a} {l} e g =
+    let z : a + l - a ≡ l = omega arith in
+    record { chosen = λ t h. rw (e, ← z) g }
+
+pub rule-absent : (reading : Reading) (s : List ℕ) {f : First} {before : Ruled} → f ≡ first.NoRule → Chooses reading s f before before
+rule-absent reading s e = record { chosen = λ t h. rw e h }
+
+pub rule-refused : (reading : Reading) (s : List ℕ) {f : First} {before r : Ruled} {x : Error} → f ≡ first.Refused x → Gives (stop x) r → Chooses reading s f before r
+rule-refused reading s e g = record { chosen = λ t h. rw e g }

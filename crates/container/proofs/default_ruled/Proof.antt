@@ -1,0 +1,14 @@
+use mathlib.Core.Path.{refl, _∙_}
+use Rattle.container.proofs.Rules.{three}
+use borrow.Author.Needs.{needs}
+use Rattle.container.proofs.default_ruled.Statement.{statement}
+use Rattle.container.proofs.default_ruled.Tie as tie
+
+default-rule-requires : tie.Need-default-rule-requires
+default-rule-requires c κs = search needs
+
+returns : tie.Need-returns
+returns c = record { outcome-is = refl; nodes = c .default-rule .ensures .0; count = c .default-rule .ensures .1 ∙ three }
+
+pub default-ruled-spec : {M : Type 1} → statement M
+default-ruled-spec = tie.close (tie.spec default-rule-requires returns)

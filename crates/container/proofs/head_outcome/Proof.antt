@@ -1,0 +1,20 @@
+use Rattle.container.specs.Promise.{headOutcome}
+use Rattle.messages.proofs.Told.{told}
+use borrow.Author.Needs.{needs}
+use Rattle.container.proofs.head_outcome.Statement.{statement}
+use Rattle.container.proofs.head_outcome.Tie as tie
+
+enum-known-head : tie.Need-enum-known-head
+enum-known-head c = search needs
+
+enum-known-head-2 : tie.Need-enum-known-head-2
+enum-known-head-2 c = search needs
+
+returns : tie.Need-returns
+returns c = told headOutcome (c .before .head .given .1)
+
+returns-2 : tie.Need-returns-2
+returns-2 c = told headOutcome (c .before .head2 .given .1)
+
+pub head-outcome-spec : {M : Type 1} → statement M
+head-outcome-spec = tie.close (tie.spec enum-known-head enum-known-head-2 returns returns-2)

@@ -1,0 +1,17 @@
+use Rattle.plurals.specs.Plurals.{parsed}
+use Rattle.container.proofs.Rules.{outcome-read, nodes-read, count-read}
+use borrow.Author.Needs.{needs}
+use Rattle.container.proofs.parse_rule.Statement.{statement}
+use Rattle.container.proofs.parse_rule.Tie as tie
+
+parse-requires : tie.Need-parse-requires
+parse-requires c κs = search needs
+
+outcome-of-requires : tie.Need-outcome-of-requires
+outcome-of-requires c κs = search needs
+
+returns : tie.Need-returns
+returns c = record { outcome-is = outcome-read (parsed (c .before .before .before .before .args .reading) (c .before .before .before .before .args .text .now)) (c .before .before .parse .ensures .outcome) (c .before .outcome-of .ensures); nodes = nodes-read (parsed (c .before .before .before .before .args .reading) (c .before .before .before .before .args .text .now)) (c .before .before .parse .ensures .nodes); count = count-read (parsed (c .before .before .before .before .args .reading) (c .before .before .before .before .args .text .now)) (c .before .before .parse .ensures .count) }
+
+pub parse-rule-spec : {M : Type 1} → statement M
+parse-rule-spec = tie.close (tie.spec parse-requires outcome-of-requires returns)

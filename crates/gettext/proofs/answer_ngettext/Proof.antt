@@ -1,0 +1,20 @@
+-- What `lookup` finds by the record's tables and its rule. Assumes nothing.
+use mathlib.Core.Path.{ap, _∙_}
+use Rattle.lookup.specs.Lookup.{plural}
+use Rattle.lookup.specs.declared.Tables.{Tables}
+use Rattle.gettext.specs.Catalog.{poolOf}
+use borrow.Author.Needs.{needs}
+use Rattle.gettext.proofs.answer_ngettext.Statement.{statement}
+use Rattle.gettext.proofs.answer_ngettext.Tie as tie
+
+tables-of-requires : tie.Need-tables-of-requires
+tables-of-requires c κs = search needs
+
+nfind-requires : tie.Need-nfind-requires
+nfind-requires c κs = search needs
+
+returns : tie.Need-returns
+returns c = c .nfind .ensures ∙ ap (λ (t : Tables). plural (c .before .before .before .before .before .before .before .before .args .file .now) t (poolOf (c .before .before .before .before .before .before .before .before .args .t2)) (c .before .before .before .before .before .before .before .before .args .t2 .nodes) (c .before .before .before .before .before .before .before .before .args .t2 .root) (c .before .before .before .before .before .before .before .before .args .id .now) (c .before .before .before .before .before .before .before .before .args .n)) (c .before .before .before .before .before .tables-of .ensures)
+
+pub answer-ngettext-spec : {M : Type 1} → statement M
+answer-ngettext-spec = tie.close (tie.spec tables-of-requires nfind-requires returns)

@@ -1,0 +1,6 @@
+pub mod Cells
+pub mod Marks
+pub mod Segments
+pub mod Forms
+pub mod Entries
+pub mod Unique

@@ -1,0 +1,16 @@
+use Rattle.layout.proofs.Marks.{with-context}
+use borrow.Author.Needs.{needs}
+use Rattle.layout.proofs.after_context.Statement.{statement}
+use Rattle.layout.proofs.after_context.Tie as tie
+
+add-id : tie.Need-add-id
+add-id c = search needs
+
+find-byte-from-requires : tie.Need-find-byte-from-requires
+find-byte-from-requires c κs = search needs
+
+returns : tie.Need-returns
+returns c = with-context _ (c .before .before .pre .0) (c .before .before .pre .1) (c .find-byte-from .ensures)
+
+pub after-context-spec : {M : Type 1} → statement M
+after-context-spec = tie.close (tie.spec add-id find-byte-from-requires returns)

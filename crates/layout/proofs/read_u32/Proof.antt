@@ -1,0 +1,82 @@
+-- The four bytes from the lowest on, in the order that the file has. Assumes nothing.
+use Rattle.layout.proofs.Cells.{read-big, read-little}
+use borrow.Author.Needs.{needs}
+use Rattle.layout.proofs.read_u32.Statement.{statement}
+use Rattle.layout.proofs.read_u32.Tie as tie
+
+add-from-bytes : tie.Need-add-from-bytes
+add-from-bytes c = search needs
+
+shared-slice-read-from-bytes : tie.Need-shared-slice-read-from-bytes
+shared-slice-read-from-bytes c = search needs
+
+add-from-bytes-2 : tie.Need-add-from-bytes-2
+add-from-bytes-2 c = search needs
+
+shared-slice-read-from-bytes-2 : tie.Need-shared-slice-read-from-bytes-2
+shared-slice-read-from-bytes-2 c = search needs
+
+add-from-bytes-3 : tie.Need-add-from-bytes-3
+add-from-bytes-3 c = search needs
+
+shared-slice-read-from-bytes-3 : tie.Need-shared-slice-read-from-bytes-3
+shared-slice-read-from-bytes-3 c = search needs
+
+shared-slice-read-from-bytes-4 : tie.Need-shared-slice-read-from-bytes-4
+shared-slice-read-from-bytes-4 c = search needs
+
+from-bytes-requires : tie.Need-from-bytes-requires
+from-bytes-requires c κs = search needs
+
+returns : tie.Need-returns
+returns c = read-big _ _ (c .before .before .before .before .before .if1 .taken) (c .from-bytes .ensures .0) (c .from-bytes .ensures .1)
+
+shared-slice-read-from-bytes-5 : tie.Need-shared-slice-read-from-bytes-5
+shared-slice-read-from-bytes-5 c = search needs
+
+add-from-bytes-4 : tie.Need-add-from-bytes-4
+add-from-bytes-4 c = search needs
+
+shared-slice-read-from-bytes-6 : tie.Need-shared-slice-read-from-bytes-6
+shared-slice-read-from-bytes-6 c = search needs
+
+add-from-bytes-5 : tie.Need-add-from-bytes-5
+add-from-bytes-5 c = search needs
+
+shared-slice-read-from-bytes-7 : tie.Need-shared-slice-read-from-bytes-7
+shared-slice-read-from-bytes-7 c = search needs
+
+add-from-bytes-6 : tie.Need-add-from-bytes-6
+add-from-bytes-6 c = search needs
+
+shared-slice-read-from-bytes-8 : tie.Need-shared-slice-read-from-bytes-8
+shared-slice-read-from-bytes-8 c = search needs
+
+from-bytes-requires-2 : tie.Need-from-bytes-requires-2
+from-bytes-requires-2 c κs = search needs
+
+returns-2 : tie.Need-returns-2
+returns-2 c = read-little _ _ (c .before .before .before .before .before .if1 .left) (c .from-bytes2 .ensures .0) (c .from-bytes2 .ensures .1)
+
+pub read-u32-spec : {M : Type 1} → statement M
+read-u32-spec =
+    tie.close
+    (tie.spec
+    add-from-bytes
+    shared-slice-read-from-bytes
+    add-from-bytes-2
+    shared-slice-read-from-bytes-2
+    add-from-bytes-3
+    shared-slice-read-from-bytes-3
+    shared-slice-read-from-bytes-4
+    from-bytes-requires
+    returns
+    shared-slice-read-from-bytes-5
+    add-from-bytes-4
+    shared-slice-read-from-bytes-6
+    add-from-bytes-5
+    shared-slice-read-from-bytes-7
+    add-from-bytes-6
+    shared-slice-read-from-bytes-8
+    from-bytes-requires-2
+    returns-2)

@@ -1,0 +1,2 @@
+pub mod Mo
+pub mod Promise

@@ -1,0 +1,7 @@
+pub mod Keys
+pub mod Entries
+pub mod Scan
+pub mod Answers
+pub mod Said
+pub mod Rated
+pub mod Unique

@@ -1,0 +1,78 @@
+-- The loop's invariant: the entries from i on have not the key. The measure is i. Assumes nothing.
+use mathlib.Core.Path.{_≡_}
+use lib.ListN.{length}
+use Rattle.lookup.specs.Lookup.{keyOf}
+use Rattle.lookup.proofs.Keys.{sized-is, sized-long}
+use Rattle.lookup.proofs.Scan.{too-long, Passed, passed-first, passed-end, passed-hit, passed-miss}
+use borrow.Author.Needs.{needs}
+use Rattle.lookup.proofs.last_hit.Statement.{statement}
+use Rattle.lookup.proofs.last_hit.Tie as tie
+
+abbrev Inv-loop : tie.InvT-loop
+Inv-loop file t given context id n i₀ i = (n ≡ length (keyOf given context id)) × Passed file t (keyOf given context id) i
+
+abbrev μ-loop : tie.MeasureT-loop
+μ-loop file t given context id n i₀ i = i
+
+size-of-requires : tie.Need-size-of-requires Inv-loop μ-loop
+size-of-requires c κs = search needs
+
+enum-known-size : tie.Need-enum-known-size Inv-loop μ-loop
+enum-known-size c = search needs
+
+enum-told : tie.Need-enum-told Inv-loop μ-loop
+enum-told c = search needs
+
+returns : tie.Need-returns Inv-loop μ-loop
+returns c = too-long (c .before .before .before .before .before .before .args .file .now) (c .before .before .before .before .before .before .args .t) (keyOf (c .before .before .before .before .before .before .args .given) (c .before .before .before .before .before .before .args .context .now) (c .before .before .before .before .before .before .args .id .now)) (sized-long (keyOf (c .before .before .before .before .before .before .args .given) (c .before .before .before .before .before .before .args .context .now) (c .before .before .before .before .before .before .args .id .now)) (c .before .before .size-of .ensures) (c .enum-told .given .1))
+
+scan-from-requires : tie.Need-scan-from-requires Inv-loop μ-loop
+scan-from-requires c κs = search needs
+
+loop-holds : tie.Need-loop-holds Inv-loop μ-loop
+loop-holds c = (sized-is (keyOf (c .before .before .before .before .before .before .before .before .args .given) (c .before .before .before .before .before .before .before .before .args .context .now) (c .before .before .before .before .before .before .before .before .args .id .now)) (c .before .before .before .before .size-of .ensures) (c .before .before .size .given .1), passed-first (c .before .before .before .before .before .before .before .before .args .file .now) (c .before .before .before .before .before .before .before .before .args .t) (keyOf (c .before .before .before .before .before .before .before .before .args .given) (c .before .before .before .before .before .before .before .before .args .context .now) (c .before .before .before .before .before .before .before .before .args .id .now)) (c .scan-from .ensures))
+
+sub-i : tie.Need-sub-i Inv-loop μ-loop
+sub-i c = search needs
+
+hit-at-requires : tie.Need-hit-at-requires Inv-loop μ-loop
+hit-at-requires c κs = c .before .loop .inv .0
+
+enum-known-hit : tie.Need-enum-known-hit Inv-loop μ-loop
+enum-known-hit c = search needs
+
+returns-2 : tie.Need-returns-2 Inv-loop μ-loop
+returns-2 c = passed-hit (c .before .before .before .before .before .before .before .before .before .before .before .before .before .before .args .file .now) (c .before .before .before .before .before .before .before .before .before .before .before .before .before .before .args .t) (keyOf (c .before .before .before .before .before .before .before .before .before .before .before .before .before .before .args .given) (c .before .before .before .before .before .before .before .before .before .before .before .before .before .before .args .context .now) (c .before .before .before .before .before .before .before .before .before .before .before .before .before .before .args .id .now)) (c .before .before .before .before .before .loop .i) (c .before .before .before .before .loop-test .taken) (c .before .before .before .hit-at .ensures) (c .before .hit .given .1) (c .before .before .before .before .before .loop .inv .1)
+
+enum-told-2 : tie.Need-enum-told-2 Inv-loop μ-loop
+enum-told-2 c = search needs
+
+loop-less : tie.Need-loop-less Inv-loop μ-loop
+loop-less c = search needs
+
+loop-again : tie.Need-loop-again Inv-loop μ-loop
+loop-again c = (c .before .before .before .before .loop .inv .0, passed-miss (c .before .before .before .before .before .before .before .before .before .before .before .before .before .args .file .now) (c .before .before .before .before .before .before .before .before .before .before .before .before .before .args .t) (keyOf (c .before .before .before .before .before .before .before .before .before .before .before .before .before .args .given) (c .before .before .before .before .before .before .before .before .before .before .before .before .before .args .context .now) (c .before .before .before .before .before .before .before .before .before .before .before .before .before .args .id .now)) (c .before .before .before .before .loop .i) (c .before .before .before .loop-test .taken) (c .before .before .hit-at .ensures) (c .enum-told2 .given .1) (c .before .before .before .before .loop .inv .1))
+
+returns-3 : tie.Need-returns-3 Inv-loop μ-loop
+returns-3 c = passed-end (c .before .before .before .before .before .before .before .before .before .before .args .file .now) (c .before .before .before .before .before .before .before .before .before .before .args .t) (keyOf (c .before .before .before .before .before .before .before .before .before .before .args .given) (c .before .before .before .before .before .before .before .before .before .before .args .context .now) (c .before .before .before .before .before .before .before .before .before .before .args .id .now)) (c .loop-test .left) (c .before .loop .inv .1)
+
+pub last-hit-spec : {M : Type 1} → statement M
+last-hit-spec =
+    tie.close
+    (tie.spec
+    Inv-loop
+    μ-loop
+    size-of-requires
+    enum-known-size
+    enum-told
+    returns
+    scan-from-requires
+    loop-holds
+    sub-i
+    hit-at-requires
+    enum-known-hit
+    returns-2
+    enum-told-2
+    loop-less
+    loop-again
+    returns-3)

@@ -1,0 +1,3 @@
+pub mod Lookup
+pub mod Promise
+pub mod Text

@@ -1,0 +1,172 @@
+-- Heads and entries as they were read: only entry 0 is a header, one that is not refused is an entry, and the head's fields are words of
+-- the file. Assumes nothing.
+use Prim.Native.Nat.{ℕ, _+_, _≤_}
+use mathlib.Core.Path.{_≡_, refl, sym, ap, _∙_}
+use mathlib.Core.Bool.{Bool, true, _&&_}
+use mathlib.Core.List.{List, [], _∷_}
+use native.Mathlib.Omega.{arith}
+use lib.ListN.{length}
+use lib.Dec.{leb, ltb, eqb}
+use borrow.Author.Tests.{eqb-true}
+use Rattle.text.specs.Utf8.{utf8}
+use Rattle.text.specs.Cut.{every}
+use Rattle.text.proofs.Tests.{taken, left, by-test}
+use Rattle.layout.specs.Mo.{word, string, original, context, id, idEnd, ended, segments, translated, keyed, entry}
+use Rattle.layout.specs.declared.Stretch.{Stretch}
+use Rattle.layout.specs.declared.Stretch.the-variants as stretch
+use Rattle.layout.specs.declared.Entry.{Entry}
+use Rattle.layout.specs.declared.Entry.the-variants as entries
+use Rattle.layout.proofs.Cells.{string-told}
+use Rattle.messages.specs.Messages.{orderOf, tables, headOf, identified, originalOf, originalIn, translationIn, joined, readAt}
+use Rattle.messages.specs.declared.Error.{Error}
+use Rattle.messages.specs.declared.Error.the-variants.{Eof, DecodingError, MisplacedMetadata}
+use Rattle.messages.specs.declared.Order.{Order}
+use Rattle.messages.specs.declared.Order.the-variants as order
+use Rattle.messages.specs.declared.Head.the-variants as head
+use Rattle.messages.specs.declared.Original.{Original}
+use Rattle.messages.specs.declared.Original.the-variants as original
+use Rattle.messages.specs.declared.Translation.{Translation}
+use Rattle.messages.specs.declared.Translation.the-variants as translation
+use Rattle.messages.specs.declared.Read.{Read}
+use Rattle.messages.specs.declared.Read.the-variants as read
+
+-- what a header's parts are
+joined-header : (o : Original) (t : Translation) {a l : ℕ} → joined o t ≡ read.Header a l → (o ≡ original.Empty) × (t ≡ translation.At a l)
+joined-header (original.Refused x) t e = absurd (let z : _≡_ {A = ℕ} 0 1 = cc in omega arith)
+joined-header original.Named (translation.At b m) e = absurd (let z : _≡_ {A = ℕ} 0 1 = cc in omega arith)
+joined-header original.Named (translation.Refused x) e = absurd (let z : _≡_ {A = ℕ} 0 1 = cc in omega arith)
+joined-header original.Empty (translation.At b m) {a} {l} e = (refl, (let x : b ≡ a = cc in let y : m ≡ l = cc in rw (x, y)))
+joined-header original.Empty (translation.Refused x) e = absurd (let z : _≡_ {A = ℕ} 0 1 = cc in omega arith)
+
+pub translation-at : (s : List ℕ) (z : Stretch) {a l : ℕ} → translationIn s z ≡ translation.At a l → z ≡ stretch.At a l
+translation-at s (stretch.At b m) {a} {l} e =
+    by-test (stretch.At b m ≡ stretch.At a l) (every utf8 (segments s b m))
+    (λ t. let q : translation.At b m ≡ translation.At a l = sym (taken _ _ t) ∙ e in let x : b ≡ a = cc in let y : m ≡ l = cc in rw (x, y))
+    (λ t. let q : translation.Refused DecodingError ≡ translation.At a l = sym (left _ _ t) ∙ e in absurd (let z : _≡_ {A = ℕ} 0 1 = cc in omega arith))
+translation-at s stretch.Outside e = absurd (let z : _≡_ {A = ℕ} 0 1 = cc in omega arith)
+
+identified-empty : (i : ℕ) (l : List ℕ) → identified i l ≡ original.Empty → i ≡ 0
+identified-empty i [] e =
+    by-test (i ≡ 0) (eqb i 0)
+    (λ t. eqb-true i 0 t)
+    (λ t. let q : original.Refused MisplacedMetadata ≡ original.Empty = sym (left _ _ t) ∙ e in absurd (let z : _≡_ {A = ℕ} 0 1 = cc in omega arith))
+identified-empty i (b ∷ l) e = absurd (let z : _≡_ {A = ℕ} 0 1 = cc in omega arith)
+
+-- an original that is not refused has an id that ends
+pub record Passed (i : ℕ) (o : List ℕ) (r : Original) : Type 0 where
+  pub ends : ended o ≡ true
+  pub is : identified i (id o) ≡ r
+
+pub original-passed : (i : ℕ) (o : List ℕ) {r : Original} → originalOf i o ≡ r → ((x : Error) → r ≡ original.Refused x → ⊥) → Passed i o r
+unfolding originalOf
+original-passed i o {r} e n =
+    by-test (Passed i o r) (utf8 (context o))
+    (λ t.
+    by-test (Passed i o r) (ended o)
+    (λ u.
+    by-test (Passed i o r) (utf8 (id o))
+    (λ v. record { ends = u; is = sym (taken _ _ t ∙ taken _ _ u ∙ taken _ _ v) ∙ e })
+    (λ v. absurd (n DecodingError (sym e ∙ taken _ _ t ∙ taken _ _ u ∙ left _ _ v))))
+    (λ u. absurd (n Eof (sym e ∙ taken _ _ t ∙ left _ _ u))))
+    (λ t. absurd (n DecodingError (sym e ∙ left _ _ t)))
+
+empty-first : (s : List ℕ) (i : ℕ) (z : Stretch) → originalIn s i z ≡ original.Empty → i ≡ 0
+empty-first s i (stretch.At a l) e =
+    identified-empty i (id (original s a l))
+    (original-passed i (original s a l) e (λ x q. let z : _≡_ {A = ℕ} 0 1 = cc in omega arith) .is)
+empty-first s i stretch.Outside e = absurd (let z : _≡_ {A = ℕ} 0 1 = cc in omega arith)
+
+module _ (big : Bool) (s : List ℕ) (originals translations : ℕ) where
+  pub header-inside : (i : ℕ) {a l : ℕ} → readAt big s originals translations i ≡ read.Header a l → a + l + 1 ≤ length s
+  unfolding readAt
+  header-inside i e =
+      string-told big s translations i
+      (translation-at s (string big s translations i)
+      (joined-header (originalIn s i (string big s originals i)) (translationIn s (string big s translations i)) e .1))
+
+  pub header-first : (i : ℕ) {a l : ℕ} → readAt big s originals translations i ≡ read.Header a l → i ≡ 0
+  unfolding readAt
+  header-first i e =
+      empty-first s i (string big s originals i)
+      (joined-header (originalIn s i (string big s originals i)) (translationIn s (string big s translations i)) e .0)
+
+  -- an original, then a translation
+  module _ (i : ℕ) {q : Original} (e : q ≡ originalIn s i (string big s originals i)) where
+    pub read-refused : {x : Error} → q ≡ original.Refused x → read.Refused x ≡ readAt big s originals translations i
+    unfolding readAt
+    read-refused f = sym (ap (λ (p : Original). joined p (translationIn s (string big s translations i))) (sym e ∙ f))
+
+    module _ {t : Translation} {r : Read} where
+      pub read-named : q ≡ original.Named → t ≡ translationIn s (string big s translations i) → r ≡ joined original.Named t → r ≡ readAt big s originals translations i
+      unfolding readAt
+      read-named f g h = h ∙ ap (joined original.Named) g ∙ sym (ap (λ (p : Original). joined p (translationIn s (string big s translations i))) (sym e ∙ f))
+
+      pub read-empty : q ≡ original.Empty → t ≡ translationIn s (string big s translations i) → r ≡ joined original.Empty t → r ≡ readAt big s originals translations i
+      unfolding readAt
+      read-empty f g h = h ∙ ap (joined original.Empty) g ∙ sym (ap (λ (p : Original). joined p (translationIn s (string big s translations i))) (sym e ∙ f))
+
+-- an entry, with its places
+pub record IsEntry (e : Entry) : Type 0 where
+  pub key : ℕ
+  pub len : ℕ
+  pub text : ℕ
+  pub size : ℕ
+  pub is : e ≡ entries.At key len text size
+
+-- an entry that was read has an original and a translation
+record Both (o : Original) (t : Translation) : Type 0 where
+  kept : (x : Error) → o ≡ original.Refused x → ⊥
+  start : ℕ
+  len : ℕ
+  at : t ≡ translation.At start len
+
+both : (o : Original) (t : Translation) → ((x : Error) → joined o t ≡ read.Refused x → ⊥) → Both o t
+both (original.Refused x) t n = absurd (n x refl)
+both original.Named (translation.At a l) n = record { kept = λ x q. let z : _≡_ {A = ℕ} 0 1 = cc in omega arith; start = a; len = l; at = refl }
+both original.Named (translation.Refused x) n = absurd (n x refl)
+both original.Empty (translation.At a l) n = record { kept = λ x q. let z : _≡_ {A = ℕ} 0 1 = cc in omega arith; start = a; len = l; at = refl }
+both original.Empty (translation.Refused x) n = absurd (n x refl)
+
+keyed-entry : (s : List ℕ) (i : ℕ) (u v : Stretch) → Both (originalIn s i u) (translationIn s v) → IsEntry (keyed s u v)
+keyed-entry s i (stretch.At a l) v h =
+    let p = original-passed i (original s a l) refl (h .kept) in
+    record {
+      key = a;
+      len = idEnd (original s a l);
+      text = h .start;
+      size = h .len;
+      is = taken _ _ (p .ends) ∙ ap (λ (z : Stretch). translated z a (idEnd (original s a l))) (translation-at s v (h .at));
+    }
+keyed-entry s i stretch.Outside v h = absurd (h .kept Eof refl)
+
+pub read-entry : (b : Bool) (s : List ℕ) (x y i : ℕ) → ((z : Error) → readAt b s x y i ≡ read.Refused z → ⊥) → IsEntry (entry b s x y i)
+unfolding readAt entry
+read-entry b s x y i e =
+    keyed-entry s i (string b s x i) (string b s y i) (both (originalIn s i (string b s x i)) (translationIn s (string b s y i)) e)
+
+-- the count is the word at 8, in the file's byte order, and the tables are the words at 12 and 16
+pub record Words (s : List ℕ) (b : Bool) (k x y : ℕ) : Type 0 where
+  pub magic : orderOf s ≡ order.Big b
+  pub count : k ≡ word b s 8
+  pub originals : x ≡ word b s 12
+  pub translations : y ≡ word b s 16
+
+words-of : (s : List ℕ) (q : Order) → orderOf s ≡ q → {b : Bool} {k x y : ℕ} → tables s q ≡ head.Fields b k x y → Words s b k x y
+words-of s (order.Big c) e {b} {k} {x} {y} f =
+    by-test (Words s b k x y) (leb (word c s 12) (length s) && leb (word c s 16) (length s))
+    (λ t.
+    let g : head.Fields c (word c s 8) (word c s 12) (word c s 16) ≡ head.Fields b k x y = sym (taken _ _ t) ∙ f in
+    let q1 : c ≡ b = cc in
+    let q2 : k ≡ word c s 8 = cc in
+    let q3 : x ≡ word c s 12 = cc in
+    let q4 : y ≡ word c s 16 = cc in
+    record { magic = rw (← q1) e; count = rw (← q1) q2; originals = rw (← q1) q3; translations = rw (← q1) q4 })
+    (λ t. let g : head.Refused Eof ≡ head.Fields b k x y = sym (left _ _ t) ∙ f in absurd (let z : _≡_ {A = ℕ} 0 1 = cc in omega arith))
+words-of s order.Unknown e f = absurd (let z : _≡_ {A = ℕ} 0 1 = cc in omega arith)
+
+pub head-words : (s : List ℕ) {b : Bool} {k x y : ℕ} → headOf s ≡ head.Fields b k x y → Words s b k x y
+unfolding headOf
+head-words s {b} {k} {x} {y} e =
+    by-test (Words s b k x y) (ltb (length s) 28)
+    (λ t. let g : head.Refused Eof ≡ head.Fields b k x y = sym (taken _ _ t) ∙ e in absurd (let z : _≡_ {A = ℕ} 0 1 = cc in omega arith))
+    (λ t. words-of s (orderOf s) refl (sym (left _ _ t) ∙ e))

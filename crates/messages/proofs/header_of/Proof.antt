@@ -1,0 +1,22 @@
+use Rattle.messages.specs.Messages.{joined}
+use Rattle.messages.specs.declared.Original.the-variants.{Empty}
+use Rattle.messages.proofs.Told.{told}
+use borrow.Author.Needs.{needs}
+use Rattle.messages.proofs.header_of.Statement.{statement}
+use Rattle.messages.proofs.header_of.Tie as tie
+
+enum-known-translation : tie.Need-enum-known-translation
+enum-known-translation c = search needs
+
+enum-known-translation-2 : tie.Need-enum-known-translation-2
+enum-known-translation-2 c = search needs
+
+returns : tie.Need-returns
+returns c = told (joined Empty) (c .before .translation .given .1)
+
+returns-2 : tie.Need-returns-2
+returns-2 c = told (joined Empty) (c .before .translation2 .given .1)
+
+pub header-of-spec : {M : Type 1} → statement M
+header-of-spec =
+    tie.close (tie.spec enum-known-translation enum-known-translation-2 returns returns-2)

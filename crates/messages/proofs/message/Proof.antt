@@ -1,0 +1,22 @@
+use Rattle.messages.specs.Messages.{joined}
+use Rattle.messages.specs.declared.Original.the-variants.{Named}
+use Rattle.messages.proofs.Told.{told}
+use borrow.Author.Needs.{needs}
+use Rattle.messages.proofs.message.Statement.{statement}
+use Rattle.messages.proofs.message.Tie as tie
+
+enum-known-translation : tie.Need-enum-known-translation
+enum-known-translation c = search needs
+
+enum-known-translation-2 : tie.Need-enum-known-translation-2
+enum-known-translation-2 c = search needs
+
+returns : tie.Need-returns
+returns c = told (joined Named) (c .before .translation .given .1)
+
+returns-2 : tie.Need-returns-2
+returns-2 c = told (joined Named) (c .before .translation2 .given .1)
+
+pub message-spec : {M : Type 1} → statement M
+message-spec =
+    tie.close (tie.spec enum-known-translation enum-known-translation-2 returns returns-2)

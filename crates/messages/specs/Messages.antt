@@ -1,0 +1,94 @@
+-- The head and the entries of a file. Document 01, "Loading, in order", 2 to 5, and "Numbers returned". A stage hands on its value or
+-- its refusal.
+use Prim.Native.Nat.{ℕ}
+use mathlib.Core.Bool.{Bool, true, false, _&&_}
+use mathlib.Core.List.{List, [], _∷_}
+use lib.ListN.{length}
+use lib.Dec.{leb, ltb, eqb}
+use Rattle.text.specs.Utf8.{utf8}
+use Rattle.text.specs.Bytes.{begins}
+use Rattle.text.specs.Cut.{every}
+use Rattle.layout.specs.Mo.{word, string, original, context, id, ended, segments}
+use Rattle.layout.specs.declared.Stretch.{Stretch}
+use Rattle.layout.specs.declared.Stretch.the-variants as stretch
+use Rattle.messages.specs.declared.Error.{Error}
+use Rattle.messages.specs.declared.Error.the-variants.{Eof, BadMagic, DecodingError, MalformedMetadata, MisplacedMetadata, PluralParsing, UnknownEncoding, RuleTooLong, PoolFull}
+use Rattle.messages.specs.declared.Order.{Order}
+use Rattle.messages.specs.declared.Order.the-variants as order
+use Rattle.messages.specs.declared.Head.{Head}
+use Rattle.messages.specs.declared.Head.the-variants as head
+use Rattle.messages.specs.declared.Original.{Original}
+use Rattle.messages.specs.declared.Original.the-variants as original
+use Rattle.messages.specs.declared.Translation.{Translation}
+use Rattle.messages.specs.declared.Translation.the-variants as translation
+use Rattle.messages.specs.declared.Read.{Read}
+use Rattle.messages.specs.declared.Read.the-variants as read
+
+-- the numbers of document 01
+abbrev pub numberOf : Error → ℕ
+numberOf Eof = 1
+numberOf BadMagic = 2
+numberOf DecodingError = 3
+numberOf MalformedMetadata = 4
+numberOf MisplacedMetadata = 5
+numberOf PluralParsing = 6
+numberOf UnknownEncoding = 7
+numberOf RuleTooLong = 8
+numberOf PoolFull = 9
+
+-- 2. the magic tells the byte order
+unfoldable pub orderOf : List ℕ → Order
+orderOf s =
+    elim (begins (0xde ∷ 0x12 ∷ 0x04 ∷ 0x95 ∷ []) s) [
+      | true ↦ order.Big false
+      | false ↦ elim (begins (0x95 ∷ 0x04 ∷ 0x12 ∷ 0xde ∷ []) s) [ true ↦ order.Big true | false ↦ order.Unknown ]
+    ]
+
+-- 3. the count and the tables
+abbrev pub tables : List ℕ → Order → Head
+tables s (order.Big b) =
+    elim (leb (word b s 12) (length s) && leb (word b s 16) (length s)) [
+      | true ↦ head.Fields b (word b s 8) (word b s 12) (word b s 16)
+      | false ↦ head.Refused Eof
+    ]
+tables s order.Unknown = head.Refused BadMagic
+
+unfoldable pub headOf : List ℕ → Head
+unfolding orderOf
+headOf s = elim (ltb (length s) 28) [ true ↦ head.Refused Eof | false ↦ tables s (orderOf s) ]
+
+-- 4. an original, o being its string with the byte after it
+abbrev pub identified : ℕ → List ℕ → Original
+identified i [] = elim (eqb i 0) [ true ↦ original.Empty | false ↦ original.Refused MisplacedMetadata ]
+identified i (b ∷ s) = original.Named
+
+unfoldable pub originalOf : ℕ → List ℕ → Original
+originalOf i o =
+    elim (utf8 (context o)) [
+      | false ↦ original.Refused DecodingError
+      | true ↦ elim (ended o) [
+        | false ↦ original.Refused Eof
+        | true ↦ elim (utf8 (id o)) [ false ↦ original.Refused DecodingError | true ↦ identified i (id o) ]
+      ]
+    ]
+
+abbrev pub originalIn : List ℕ → ℕ → Stretch → Original
+originalIn s i (stretch.At start len) = originalOf i (original s start len)
+originalIn s i stretch.Outside = original.Refused Eof
+
+-- 5. a translation; the byte after it is not looked at
+abbrev pub translationIn : List ℕ → Stretch → Translation
+translationIn s (stretch.At start len) =
+    elim (every utf8 (segments s start len)) [ true ↦ translation.At start len | false ↦ translation.Refused DecodingError ]
+translationIn s stretch.Outside = translation.Refused Eof
+
+abbrev pub joined : Original → Translation → Read
+joined (original.Refused e) t = read.Refused e
+joined original.Named (translation.At start len) = read.Message
+joined original.Named (translation.Refused e) = read.Refused e
+joined original.Empty (translation.At start len) = read.Header start len
+joined original.Empty (translation.Refused e) = read.Refused e
+
+unfoldable pub readAt : Bool → List ℕ → ℕ → ℕ → ℕ → Read
+unfolding originalOf
+readAt big s originals translations i = joined (originalIn s i (string big s originals i)) (translationIn s (string big s translations i))

@@ -1,0 +1,187 @@
+// The head and the entries of a catalog's file, each tested as it is read. From parser.rs: `get_read_u32_fn`, and the loop's body in
+// `parse_catalog`. Stages answer enums; a message is not kept, since it lies in the file.
+ghost use mathlib.Core.Path.{_≡_};
+ghost use Prim.Native.Nat.{_+_, _-_, _≤_};
+ghost use lib.ListN.{length, take, drop};
+ghost use Rattle.text.specs.Utf8.{utf8};
+ghost use Rattle.layout.specs.Mo.{string};
+ghost use Rattle.messages.specs.Messages.{orderOf, tables, headOf, originalOf, originalIn, translationIn, joined, readAt};
+use layout::Stretch;
+
+// Why a file is refused.
+pub enum Error {
+    Eof,
+    BadMagic,
+    DecodingError,
+    MalformedMetadata,
+    MisplacedMetadata,
+    PluralParsing,
+    UnknownEncoding,
+    RuleTooLong,
+    PoolFull,
+}
+
+// The byte order, by the magic.
+enum Order {
+    Big(bool),
+    Unknown,
+}
+
+// Byte order, count and tables.
+pub enum Head {
+    Fields(bool, usize, usize, usize),
+    Refused(Error),
+}
+
+// An original with an id, or with an empty one.
+enum Original {
+    Named,
+    Empty,
+    Refused(Error),
+}
+
+// Where a translation lies.
+enum Translation {
+    At(usize, usize),
+    Refused(Error),
+}
+
+// An entry: a message, or the header by its translation's place.
+pub enum Read {
+    Message,
+    Header(usize, usize),
+    Refused(Error),
+}
+
+// The byte order that the magic tells.
+fn get_read_u32(file: &[u8]) -> Order
+    ensures { λ r. ⌜ r ≡ orderOf (now (file .entry)) ⌝ }
+{
+    if text::starts_with(file, b"\xde\x12\x04\x95") {
+        return Order::Big(false);
+    }
+    if text::starts_with(file, b"\x95\x04\x12\xde") {
+        return Order::Big(true);
+    }
+    Order::Unknown
+}
+
+// Count and tables; bytes 4 to 8 and those from 20 on, the hash table's, are ignored.
+fn parse_tables(file: &[u8], big: bool) -> Head
+    requires { ⌜ 28 ≤ length (now file) ⌝ }
+    ensures { λ r. ⌜ r ≡ tables (now (file .entry)) (Order.Big big) ⌝ }
+{
+    let count = layout::read_u32(file, 8, big);
+    let originals = layout::read_u32(file, 12, big);
+    let translations = layout::read_u32(file, 16, big);
+    if file.len() < originals {
+        return Head::Refused(Error::Eof);
+    }
+    if file.len() < translations {
+        return Head::Refused(Error::Eof);
+    }
+    Head::Fields(big, count, originals, translations)
+}
+
+// Byte order, count and tables, or why there are none.
+pub fn parse_head(file: &[u8]) -> Head
+    ensures { λ r. ⌜ r ≡ headOf (now (file .entry)) ⌝ }
+{
+    if file.len() < 28 {
+        return Head::Refused(Error::Eof);
+    }
+    let order = get_read_u32(file);
+    let Order::Big(big) = order else {
+        return Head::Refused(Error::BadMagic);
+    };
+    parse_tables(file, big)
+}
+
+// The original of an index with the byte after it: its context and its id.
+fn parse_original(original: &[u8], i: usize) -> Original
+    ensures { λ r. ⌜ r ≡ originalOf i (now (original .entry)) ⌝ }
+{
+    let parts = layout::split(original);
+    let context = parts.context;
+    let id = parts.id;
+    let end = parts.end;
+    if !text::is_utf8(&original[..context]) {
+        return Original::Refused(Error::DecodingError);
+    }
+    if original.len() <= end {
+        return Original::Refused(Error::Eof);
+    }
+    if !text::is_utf8(&original[id..end]) {
+        return Original::Refused(Error::DecodingError);
+    }
+    if id < end {
+        return Original::Named;
+    }
+    if i == 0 {
+        return Original::Empty;
+    }
+    Original::Refused(Error::MisplacedMetadata)
+}
+
+fn original_at(file: &[u8], big: bool, originals: usize, i: usize) -> Original
+    ensures { λ r. ⌜ r ≡ originalIn (now (file .entry)) i (string big (now (file .entry)) originals i) ⌝ }
+{
+    let string = layout::string_at(file, big, originals, i);
+    let Stretch::At(start, len) = string else {
+        return Original::Refused(Error::Eof);
+    };
+    let end = start + len + 1;
+    parse_original(&file[start..end], i)
+}
+
+// A part of the file is UTF-8. All segments of a translation are exactly if it is, since NUL is ASCII; the byte after it may be any.
+fn is_text(file: &[u8], start: usize, end: usize) -> bool
+    requires { ⌜ (start ≤ end) × (end ≤ length (now file)) ⌝ }
+    ensures { λ r. ⌜ r ≡ utf8 (take (end - start) (drop start (now (file .entry)))) ⌝ }
+{
+    text::is_utf8(&file[start..end])
+}
+
+fn translation_at(file: &[u8], big: bool, translations: usize, i: usize) -> Translation
+    ensures { λ r. ⌜ r ≡ translationIn (now (file .entry)) (string big (now (file .entry)) translations i) ⌝ }
+{
+    let string = layout::string_at(file, big, translations, i);
+    let Stretch::At(start, len) = string else {
+        return Translation::Refused(Error::Eof);
+    };
+    let end = start + len;
+    if is_text(file, start, end) {
+        return Translation::At(start, len);
+    }
+    Translation::Refused(Error::DecodingError)
+}
+
+fn message(translation: Translation) -> Read
+    ensures { λ r. ⌜ r ≡ joined Original.Named translation ⌝ }
+{
+    match translation {
+        Translation::At(start, len) => Read::Message,
+        Translation::Refused(e) => Read::Refused(e),
+    }
+}
+
+fn header_of(translation: Translation) -> Read
+    ensures { λ r. ⌜ r ≡ joined Original.Empty translation ⌝ }
+{
+    match translation {
+        Translation::At(start, len) => Read::Header(start, len),
+        Translation::Refused(e) => Read::Refused(e),
+    }
+}
+
+// Entry i: its original, then its translation.
+pub fn parse_entry(file: &[u8], big: bool, originals: usize, translations: usize, i: usize) -> Read
+    ensures { λ r. ⌜ r ≡ readAt big (now (file .entry)) originals translations i ⌝ }
+{
+    let original = original_at(file, big, originals, i);
+    match original {
+        Original::Refused(e) => Read::Refused(e),
+        Original::Named => message(translation_at(file, big, translations, i)),
+        Original::Empty => header_of(translation_at(file, big, translations, i)),
+    }
+}

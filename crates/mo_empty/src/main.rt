@@ -1,0 +1,4 @@
+// The program `mo` on no bytes.
+fn main() {
+    summary::run();
+}

@@ -1,0 +1,4 @@
+// The program `mo` on as many bytes as it reads.
+fn main() {
+    summary::run();
+}

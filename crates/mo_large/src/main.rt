@@ -1,0 +1,4 @@
+// The program `mo` on a byte too many.
+fn main() {
+    summary::run();
+}

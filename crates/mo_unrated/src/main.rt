@@ -1,0 +1,4 @@
+// The program `mo` on a catalog whose rule has no range.
+fn main() {
+    summary::run();
+}

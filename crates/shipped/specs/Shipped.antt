@@ -1,0 +1,135 @@
+-- The Shipped reading: `Ast::parse` of the Rust's plurals.rs, transcribed. Document 01, "Two readings of a rule".
+-- Each definition names the Rust's function; `parse` stands for the reading of a piece.
+use Prim.Native.Nat.{ℕ, zero, suc, _+_, _-_}
+use mathlib.Core.Bool.{Bool, true, false}
+use mathlib.Core.List.{List, [], _∷_}
+use lib.ListN.{length, getD, take, drop}
+use lib.Dec.{ltb, eqb}
+use Rattle.rules.specs.Tree.{Tree, var, int, nay, bin, cond, Op, cmp, and, or, rem, eq, ne, ge, le, gt, lt, Reading, tree, none}
+use Rattle.text.specs.Trim.{trim, six}
+use Rattle.shipped.specs.declared.scan.Number.{Number}
+use Rattle.shipped.specs.declared.scan.Number.the-variants.{Whole, NoNumber}
+use Rattle.shipped.specs.Scan.{indexOf, endFrom, integer}
+
+-- the levels, in the order in which the Rust tries them: the pattern that is sought, and what the text is cut into there
+pub data Kind : Type 0 where
+  binary : Op → Kind
+  ternary : Kind
+
+pub record Row : Type 0 where
+  pub pattern : List ℕ
+  pub kind : Kind
+
+abbrev pub row : List ℕ → Kind → Row
+row p k = record { pattern = p; kind = k }
+
+-- && || ? >= > <= < == != %
+abbrev pub rows : List Row
+rows =
+    row (38 ∷ 38 ∷ []) (binary and) ∷
+    row (124 ∷ 124 ∷ []) (binary or) ∷
+    row (63 ∷ []) ternary ∷
+    row (62 ∷ 61 ∷ []) (binary (cmp ge)) ∷
+    row (62 ∷ []) (binary (cmp gt)) ∷
+    row (60 ∷ 61 ∷ []) (binary (cmp le)) ∷
+    row (60 ∷ []) (binary (cmp lt)) ∷
+    row (61 ∷ 61 ∷ []) (binary (cmp eq)) ∷
+    row (33 ∷ 61 ∷ []) (binary (cmp ne)) ∷
+    row (37 ∷ []) (binary rem) ∷
+    []
+
+-- a node over the readings of its operands: one that has none leaves none
+abbrev pub one : Reading → Reading
+one (tree s) = tree (nay s)
+one none = none
+
+abbrev pub two : Op → Reading → Reading → Reading
+two op (tree s) (tree t) = tree (bin op s t)
+two op (tree s) none = none
+two op none r = none
+
+abbrev pub three : Reading → Reading → Reading → Reading
+three (tree s) (tree t) (tree u) = tree (cond s t u)
+three (tree s) (tree t) none = none
+three (tree s) none r = none
+three none q r = none
+
+-- `parse_n`, `parse_int`
+abbrev pub readN : List ℕ → Reading
+readN s = elim (eqb (length s) 1) [ true ↦ elim (eqb (getD s 0 0) 110) [ true ↦ tree var | false ↦ none ] | false ↦ none ]
+
+abbrev pub orN : Number → List ℕ → Reading
+orN (Whole v) s = tree (int v)
+orN NoNumber s = readN (trim six s)
+
+abbrev pub readInt : List ℕ → Reading
+readInt s = orN (integer s) s
+
+-- `index_of` gives a place: the pattern stands in the text, outside brackets
+abbrev pub found : List ℕ → List ℕ → Bool
+found pat s = ltb (indexOf pat s) (length s)
+
+abbrev pub bang : List ℕ
+bang = 33 ∷ []
+
+abbrev pub colon : List ℕ
+colon = 58 ∷ []
+
+-- `parse_not`: only where the first ! outside brackets is the first byte
+unfoldable pub readNot : (List ℕ → Reading) → List ℕ → Reading
+readNot parse s =
+    elim (found bang s) [
+      | true ↦ elim (eqb (indexOf bang s) 0) [ true ↦ one (parse (drop 1 s)) | false ↦ readInt (trim six s) ]
+      | false ↦ readInt (trim six s)
+    ]
+
+-- `parse_ternary`, the first ? at i and the first : at l: none without a :, and where it is ahead of the ?
+unfoldable pub choose : (List ℕ → Reading) → ℕ → ℕ → List ℕ → Reading
+choose parse i l s =
+    elim (ltb l (length s)) [
+      | true ↦ elim (ltb i l) [
+        | true ↦ three (parse (take i s)) (parse (take (l - (i + 1)) (drop (i + 1) s))) (parse (drop (l + 1) s))
+        | false ↦ none
+      ]
+      | false ↦ none
+    ]
+
+-- a text cut at the pattern of w signs that stands at i
+abbrev pub cut : (List ℕ → Reading) → Kind → ℕ → ℕ → List ℕ → Reading
+cut parse (binary op) i w s = two op (parse (take i s)) (parse (drop (i + w) s))
+cut parse ternary i w s = choose parse i (indexOf colon s) s
+
+abbrev pub cutAt : (List ℕ → Reading) → Row → List ℕ → Reading
+cutAt parse r s = cut parse (r .kind) (indexOf (r .pattern) s) (length (r .pattern)) s
+
+-- `parse_and`, `parse_or`, .. `parse_mod`: each hands the text on to the next, the last to `parse_not`
+unfoldable pub level : (List ℕ → Reading) → List Row → List ℕ → Reading
+level parse [] s = readNot parse (trim six s)
+level parse (r ∷ rs) s = elim (found (r .pattern) s) [ true ↦ cutAt parse r s | false ↦ level parse rs s ]
+
+-- `parse_parens`: without the first and the last byte, whatever that is, if the fold comes to the text's length.
+-- A lone "(", where the Rust panics, is none.
+abbrev pub inside : List ℕ → List ℕ
+inside s = take (length s - 1 - 1) (drop 1 s)
+
+unfoldable pub parens : (List ℕ → Reading) → List ℕ → Reading
+parens parse s =
+    elim (eqb (getD s 0 0) 40) [
+      | true ↦ elim (eqb (length s) 1) [
+        | true ↦ none
+        | false ↦ elim (eqb (endFrom (inside s) 1 2) (length s)) [
+          | true ↦ parse (trim six (inside s))
+          | false ↦ level parse rows (trim six s)
+        ]
+      ]
+      | false ↦ level parse rows (trim six s)
+    ]
+
+-- `parse`, for pieces of fewer bytes than the fuel
+unfoldable pub parseIn : ℕ → List ℕ → Reading
+parseIn zero s = none
+parseIn (suc f) s = parens (parseIn f) (trim six s)
+
+-- `Ast::parse`: every piece is shorter than its text, so this fuel does
+unfoldable pub shipped : List ℕ → Reading
+shipped s = parseIn (suc (length s)) s

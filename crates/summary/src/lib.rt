@@ -1,0 +1,94 @@
+// What the program `mo` does: it reads a catalog of at most 65,536 bytes from standard input, in the Shipped reading, and writes how
+// many entries it has and the range of its rule, or the refusal. A library, so that several programs can run it on files of their own.
+use container::Options;
+use container::Outcome;
+use container::Record;
+use messages::Error;
+use plurals::Reading;
+use rules::Rated;
+ghost use mathlib.Core.Path.{_≡_};
+ghost use Rattle.messages.specs.Messages.{numberOf};
+
+// The number of a refusal.
+fn number(e: Error) -> u64
+    ensures { λ r. ⌜ r ≡ numberOf e ⌝ }
+{
+    match e {
+        Error::Eof => 1,
+        Error::BadMagic => 2,
+        Error::DecodingError => 3,
+        Error::MalformedMetadata => 4,
+        Error::MisplacedMetadata => 5,
+        Error::PluralParsing => 6,
+        Error::UnknownEncoding => 7,
+        Error::RuleTooLong => 8,
+        Error::PoolFull => 9,
+    }
+}
+
+fn wide(n: usize) -> u64
+    ensures { λ r. ⌜ r ≡ n ⌝ }
+{
+    n as u64
+}
+
+fn line_end() {
+    io::write_all(1, b"\n");
+}
+
+fn show_rule(catalog: Record) {
+    let rated = gettext::rating(catalog);
+    match rated {
+        Rated::Range(lo, hi) => {
+            io::write_all(1, b"rule ");
+            io::print_decimal(1, lo);
+            io::write_all(1, b" ");
+            io::print_decimal(1, hi);
+        }
+        Rated::Unrated => {
+            io::write_all(1, b"rule unrated");
+        }
+        // a record that was loaded holds a tree
+        Rated::NoTree => {
+            io::write_all(1, b"rule unrated");
+        }
+    }
+    line_end();
+}
+
+fn show(file: &[u8]) {
+    let options = Options {
+        forced: false,
+        reading: Reading::Shipped,
+        utf8: false,
+    };
+    let loaded = container::load(file, file, options);
+    let outcome = loaded.outcome;
+    match outcome {
+        Outcome::Loaded => {
+            let catalog = loaded.record;
+            io::write_all(1, b"entries ");
+            io::print_decimal(1, wide(catalog.count));
+            line_end();
+            show_rule(catalog);
+        }
+        Outcome::Refused(e) => {
+            io::write_all(1, b"refused ");
+            io::print_decimal(1, number(e));
+            line_end();
+        }
+    }
+}
+
+// Reads, and writes the summary.
+pub fn run() {
+    let mut buffer = io::large_buffer();
+    let n = io::read_full(0, &mut buffer);
+    let mut more = [0u8; 1];
+    let left = io::read_full(0, &mut more);
+    if left != 0 {
+        io::write_all(1, b"too large\n");
+        return;
+    }
+    show(&buffer[..n]);
+}
