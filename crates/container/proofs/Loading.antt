@@ -1,5 +1,5 @@
 -- The stages of the load put together. Assumes nothing.
-use Prim.Native.Nat.{ℕ, zero, suc, _+_, _-_, _≤_}
+use Prim.Native.Nat.{ℕ, zero, suc, _+_, _-_, _<_, _≤_}
 use mathlib.Core.Path.{_≡_, refl, sym, ap, _∙_}
 use mathlib.Core.Bool.{Bool}
 use mathlib.Core.List.{List}
@@ -9,13 +9,12 @@ use Rattle.rules.specs.Tree.{Tree}
 use Rattle.rules.proofs.Stored.{size-pos}
 use Rattle.messages.specs.Messages.{headOf, readAt}
 use Rattle.container.specs.Catalog.{Step, next, stop, andThen, forcedRule, ruleIn, entryStep, entriesFrom, Answer, refused, answered, catalog, loadWith, load}
-use Rattle.container.specs.Promise.{Holds, Loads, Refuses, Gives, Chooses, stepOutcome, treeOf, headOutcome, readOutcome, goOn, restFrom, headerAt, firstOf, firstRule, endOfRule}
+use Rattle.container.specs.Promise.{Makes, Loads, Refuses, Gives, Chooses, stepOutcome, treeOf, headOutcome, readOutcome, goOn, restFrom, headerAt, firstOf, firstRule, endOfRule}
 use Rattle.messages.specs.declared.Error.{Error}
 use Rattle.container.specs.declared.Options.{Options}
 use Rattle.container.specs.declared.Outcome.{Outcome}
 use Rattle.container.specs.declared.Outcome.the-variants as outcome
 use Rattle.container.specs.declared.Loaded as loaded
-use Rattle.container.specs.declared.Record.{Record}
 use Rattle.container.specs.declared.Ruled.{Ruled}
 use Rattle.messages.specs.declared.Head.{Head}
 use Rattle.messages.specs.declared.Head.the-variants as head
@@ -174,39 +173,10 @@ module _ (o : Options) (f s : List ℕ) {forced : Ruled} (g : Gives (forcedRule 
           pub rest-refused : {e : Error} {r : loaded.Loaded} → rest ≡ outcome.Refused e → Refuses rest r → Loads (load o f s) r
           rest-refused v z = refusing (load o f s) (at-rest ∙ ap (λ (a : Outcome). answered (length s) b k x y (stepOf a (treeOf stage))) v) v z
 
-          pub nodes-some : 1 ≤ ruled .rule .count
+          pub nodes-some : 0 < ruled .rule .count
           nodes-some = omega (arith, gives .count, size-pos (treeOf stage))
 
-          -- the record that the code makes
-          abbrev pub made : Record
-          made =
-              record {
-                length = length s;
-                big = b;
-                count = k;
-                originals = x;
-                translations = y;
-                codes = ruled .rule .codes;
-                places = ruled .rule .places;
-                values = ruled .rule .values;
-                nodes = ruled .rule .count;
-                root = ruled .rule .count - 1;
-              }
-
-          holds : Holds (length s) b k x y (treeOf stage) made
-          holds =
-              record {
-                size-is = refl;
-                order-is = refl;
-                count-is = refl;
-                originals-at = refl;
-                translations-at = refl;
-                rule-is = gives .nodes;
-                nodes-are = gives .count;
-                root-is = ap (λ (n : ℕ). n - 1) (gives .count);
-              }
-
-          pub is-loaded : {r : loaded.Loaded} → rest ≡ outcome.Loaded → r .outcome ≡ outcome.Loaded → r .record ≡ made → Loads (load o f s) r
+          pub is-loaded : {r : loaded.Loaded} → rest ≡ outcome.Loaded → r .outcome ≡ outcome.Loaded → Makes (length s) b k x y (ruled .rule) (r .record) → Loads (load o f s) r
           is-loaded v z n =
               rw (at-rest ∙ ap (λ (a : Outcome). answered (length s) b k x y (stepOf a (treeOf stage))) v)
-              (record { outcome-is = z; keeps = rw n holds })
+              (record { outcome-is = z; keeps = n .holds (treeOf stage) (gives .nodes) (gives .count) })

@@ -25,10 +25,6 @@ pub three : 3 ≡ size defaultTree
 unfolding size
 three = refl
 
-pub two : 2 ≡ size defaultTree - 1
-unfolding size
-two = refl
-
 -- a rule that was read: how the load stands, and the tree
 read-outcome : (p : Parse) → parsedOutcome (outcomeOf p) ≡ stepOutcome (ruled (outcomeOf p) (treeIn p))
 read-outcome (rule t) = refl

@@ -6,6 +6,7 @@ use mathlib.Core.List.{List}
 use Rattle.text.specs.Trim.{six}
 use Rattle.rules.specs.Tree.{Tree}
 use Rattle.rules.specs.Pool.{pool}
+use Rattle.rules.specs.declared.Rule.{Rule}
 use Rattle.rules.specs.Store.{store, size, blank}
 use Rattle.header.specs.Header.{metadata}
 use Rattle.plurals.specs.Plurals.{defaultTree}
@@ -39,6 +40,10 @@ pub record Holds (n : ℕ) (b : Bool) (k x y : ℕ) (t : Tree) (r : Record) : Ty
   pub rule-is : pool (r .codes) (r .places) (r .values) ≡ store t 0 blank
   pub nodes-are : r .nodes ≡ size t
   pub root-is : r .root ≡ size t - 1
+
+-- it is made of its fields and of a rule, whatever tree that is
+pub record Makes (n : ℕ) (b : Bool) (k x y : ℕ) (rule : Rule) (r : Record) : Type 0 where
+  pub holds : (t : Tree) → pool (rule .codes) (rule .places) (rule .values) ≡ store t 0 blank → rule .count ≡ size t → Holds n b k x y t r
 
 -- no entries, length 0, little endian, table offsets 0, default rule
 abbrev pub Empty : Record → Type 0

@@ -7,7 +7,7 @@ ghost use lib.ListN.{length};
 ghost use Rattle.header.specs.Promise.{endOf};
 ghost use Rattle.plurals.specs.Plurals.{defaultTree};
 ghost use Rattle.container.specs.Catalog.{rule, forcedRule, labelOk, placed, load};
-ghost use Rattle.container.specs.Promise.{Empty, Loads, Refuses, Ruling, Gives, parsedOutcome, headOutcome, readOutcome};
+ghost use Rattle.container.specs.Promise.{Makes, Empty, Loads, Refuses, Ruling, Gives, parsedOutcome, headOutcome, readOutcome};
 ghost use Rattle.container.specs.Promise.{ruleAt, shifted, endOfRule, headerAt, firstRule, Chooses, restFrom};
 use header::Metadata;
 use header::Place;
@@ -64,26 +64,41 @@ enum First {
     Refused(Error),
 }
 
+// The record of a file with that rule. The root is the rule's last node.
+fn record_of(
+    length: usize,
+    big: bool,
+    count: usize,
+    originals: usize,
+    translations: usize,
+    rule: Rule,
+) -> Record
+    requires { ⌜ 0 < rule .count ⌝ }
+    ensures { λ r. ⌜ Makes length big count originals translations rule r ⌝ }
+{
+    let codes = rule.codes;
+    let places = rule.places;
+    let values = rule.values;
+    let nodes = rule.count;
+    Record {
+        length,
+        big,
+        count,
+        originals,
+        translations,
+        codes,
+        places,
+        values,
+        nodes,
+        root: nodes - 1,
+    }
+}
+
 // The empty catalog: no entries, and the default rule.
 pub fn empty() -> Record
     ensures { λ r. ⌜ Empty r ⌝ }
 {
-    let rule = rules::default_rule();
-    let codes = rule.codes;
-    let places = rule.places;
-    let values = rule.values;
-    Record {
-        length: 0,
-        big: false,
-        count: 0,
-        originals: 0,
-        translations: 0,
-        codes,
-        places,
-        values,
-        nodes: rule.count,
-        root: 2,
-    }
+    record_of(0, false, 0, 0, 0, rules::default_rule())
 }
 
 // The default rule, where the load stands so.
@@ -307,23 +322,9 @@ pub fn load<'a>(file: &'a [u8], rule: &'a [u8], options: Options) -> Loaded
         return refused(rest);
     };
     let chosen = ruled.rule;
-    let codes = chosen.codes;
-    let places = chosen.places;
-    let values = chosen.values;
-    let nodes = chosen.count;
+    let record = record_of(file.len(), big, count, originals, translations, chosen);
     Loaded {
         outcome: Outcome::Loaded,
-        record: Record {
-            length: file.len(),
-            big,
-            count,
-            originals,
-            translations,
-            codes,
-            places,
-            values,
-            nodes,
-            root: nodes - 1,
-        },
+        record,
     }
 }

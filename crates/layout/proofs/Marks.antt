@@ -48,7 +48,7 @@ from-mark x h (b ∷ s) =
     (λ t. rw (front-in plain b s t, front-in (λ c. not (eqb c x)) b s (ap not (plain-not x b h t))) (omega (arith, from-mark x h s)))
     (λ t. rw (front-out plain b s t) (omega arith))
 
-stops : (w : ℕ → Bool) (o : List ℕ) → front w o < length o → w (getD o (front w o) 0) ≡ false
+pub stops : (w : ℕ → Bool) (o : List ℕ) → front w o < length o → w (getD o (front w o) 0) ≡ false
 unfolding front
 stops w [] h = absurd (omega arith)
 stops w (b ∷ s) h =

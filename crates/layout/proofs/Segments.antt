@@ -22,7 +22,7 @@ unfolding pieceAt
 skipped at zero p ps z n e = absurd (z refl)
 skipped at (suc k) p ps z n e = let q : suc k - 1 ≡ k = omega arith in rw (q, e)
 
-past : (at k : ℕ) (p : List ℕ) → (k ≡ 0 → ⊥) → pieceAt at k (p ∷ []) ≡ Outside
+pub past : (at k : ℕ) (p : List ℕ) → (k ≡ 0 → ⊥) → pieceAt at k (p ∷ []) ≡ Outside
 unfolding pieceAt
 past at zero p z = absurd (z refl)
 past at (suc k) p z = refl

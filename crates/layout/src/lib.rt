@@ -59,7 +59,7 @@ fn cell_at(file: &[u8], at: usize, big: bool) -> Stretch
 {
     let len = read_u32(file, at, big);
     let start = read_u32(file, at + 4, big);
-    // the byte after the string is counted in
+    // the byte after the string is counted in; two words of 32 bits and 1 do not overflow
     if file.len() < start + len + 1 {
         return Stretch::Outside;
     }

@@ -3,6 +3,8 @@ use Rattle.messages.proofs.Told.{told}
 use borrow.Author.Needs.{needs}
 use Rattle.container.proofs.entry_outcome.Statement.{statement}
 use Rattle.container.proofs.entry_outcome.Tie as tie
+use Rattle.container.proofs.entry_outcome.Reads as reads
+use Rattle.container.proofs.entry_outcome.Lts as lts
 
 enum-told : tie.Need-enum-told
 enum-told c = search needs

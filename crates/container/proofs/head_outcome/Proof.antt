@@ -3,6 +3,8 @@ use Rattle.messages.proofs.Told.{told}
 use borrow.Author.Needs.{needs}
 use Rattle.container.proofs.head_outcome.Statement.{statement}
 use Rattle.container.proofs.head_outcome.Tie as tie
+use Rattle.container.proofs.head_outcome.Reads as reads
+use Rattle.container.proofs.head_outcome.Lts as lts
 
 enum-known-head : tie.Need-enum-known-head
 enum-known-head c = search needs

@@ -4,6 +4,11 @@ use native.Mathlib.Omega.{arith}
 use borrow.Author.Needs.{needs}
 use Rattle.container.proofs.header_at.Statement.{statement}
 use Rattle.container.proofs.header_at.Tie as tie
+use Rattle.container.proofs.header_at.Reads as reads
+use Rattle.container.proofs.header_at.Lts as lts
+use Rattle.container.proofs.moved.Reads as moved-reads
+use Rattle.container.proofs.parse_header.Reads as parse-header-reads
+use Rattle.text.proofs.find_byte.Reads as find-byte-reads
 
 add-end : tie.Need-add-end
 add-end c = search needs

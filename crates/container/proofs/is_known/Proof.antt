@@ -4,6 +4,9 @@ use native.Mathlib.Omega.{arith}
 use borrow.Author.Needs.{needs}
 use Rattle.container.proofs.is_known.Statement.{statement}
 use Rattle.container.proofs.is_known.Tie as tie
+use Rattle.container.proofs.is_known.Reads as reads
+use Rattle.container.proofs.is_known.Lts as lts
+use Rattle.header.proofs.is_utf8_label.Reads as is-utf8-label-reads
 
 returns : tie.Need-returns
 returns c = utf8-forced (c .before .before .args .h .now) (c .before .before .args .label) (c .if1 .taken)

@@ -1,9 +1,19 @@
-use mathlib.Core.Path.{refl}
 -- Stage by stage. Assumes nothing.
+use mathlib.Core.Path.{refl}
 use Rattle.container.proofs.Loading.{forced-refused, head-refused, rule-inside, rule-stopped, rest-refused, nodes-some, is-loaded}
 use borrow.Author.Needs.{needs}
 use Rattle.container.proofs.load.Statement.{statement}
 use Rattle.container.proofs.load.Tie as tie
+use Rattle.container.proofs.load.Reads as reads
+use Rattle.container.proofs.load.Lts as lts
+use Rattle.container.proofs.head_outcome.Reads as head-outcome-reads
+use Rattle.container.proofs.parse_first.Reads as parse-first-reads
+use Rattle.container.proofs.parse_forced.Reads as parse-forced-reads
+use Rattle.container.proofs.parse_rest.Reads as parse-rest-reads
+use Rattle.container.proofs.record_of.Reads as record-of-reads
+use Rattle.container.proofs.refused.Reads as refused-reads
+use Rattle.container.proofs.rule_of.Reads as rule-of-reads
+use Rattle.messages.proofs.parse_head.Reads as parse-head-reads
 
 parse-forced-requires : tie.Need-parse-forced-requires
 parse-forced-requires c κs = search needs
@@ -71,11 +81,11 @@ refused-requires-4 c κs = search needs
 returns-4 : tie.Need-returns-4
 returns-4 c = rest-refused (c .before .before .before .before .before .before .before .before .before .before .before .before .before .before .before .before .before .args .options) (c .before .before .before .before .before .before .before .before .before .before .before .before .before .before .before .before .before .args .rule .now) (c .before .before .before .before .before .before .before .before .before .before .before .before .before .before .before .before .before .args .file .now) (c .before .before .before .before .before .before .before .before .before .before .before .before .before .before .parse-forced .ensures) (c .before .before .before .before .before .before .before .before .before .before .before .before .enum-told .given .1) (c .before .before .before .before .before .before .before .before .before .before .before .parse-head .ensures) (c .before .before .before .before .before .before .before .before .before .head .given .1) (c .before .before .before .before .before .before .before .parse-first .ensures) (c .before .before .before .before .before .before .rule-of .ensures) (c .before .before .before .before .enum-told4 .given .1) (c .before .before .before .parse-rest .ensures) (c .before .enum-told7 .given .1) (c .refused4 .ensures)
 
-sub-t24 : tie.Need-sub-t24
-sub-t24 c = nodes-some (c .before .before .before .before .before .before .before .before .before .before .before .before .before .before .before .before .before .before .before .before .args .options) (c .before .before .before .before .before .before .before .before .before .before .before .before .before .before .before .before .before .before .before .before .args .rule .now) (c .before .before .before .before .before .before .before .before .before .before .before .before .before .before .before .before .before .before .before .before .args .file .now) (c .before .before .before .before .before .before .before .before .before .before .before .before .before .before .before .before .before .parse-forced .ensures) (c .before .before .before .before .before .before .before .before .before .before .before .before .before .before .before .enum-told .given .1) (c .before .before .before .before .before .before .before .before .before .before .before .before .before .before .parse-head .ensures) (c .before .before .before .before .before .before .before .before .before .before .before .before .head .given .1) (c .before .before .before .before .before .before .before .before .before .before .parse-first .ensures) (c .before .before .before .before .before .before .before .before .before .rule-of .ensures) (c .before .before .before .before .before .before .before .enum-told4 .given .1) (c .before .before .before .before .before .before .parse-rest .ensures)
+record-of-requires : tie.Need-record-of-requires
+record-of-requires c κs = nodes-some (c .before .before .before .before .before .before .before .before .before .before .before .before .before .before .before .before .before .args .options) (c .before .before .before .before .before .before .before .before .before .before .before .before .before .before .before .before .before .args .rule .now) (c .before .before .before .before .before .before .before .before .before .before .before .before .before .before .before .before .before .args .file .now) (c .before .before .before .before .before .before .before .before .before .before .before .before .before .before .parse-forced .ensures) (c .before .before .before .before .before .before .before .before .before .before .before .before .enum-told .given .1) (c .before .before .before .before .before .before .before .before .before .before .before .parse-head .ensures) (c .before .before .before .before .before .before .before .before .before .head .given .1) (c .before .before .before .before .before .before .before .parse-first .ensures) (c .before .before .before .before .before .before .rule-of .ensures) (c .before .before .before .before .enum-told4 .given .1) (c .before .before .before .parse-rest .ensures)
 
 returns-5 : tie.Need-returns-5
-returns-5 c = is-loaded (c .before .before .before .before .before .before .before .before .before .before .before .before .before .before .before .before .before .before .before .before .args .options) (c .before .before .before .before .before .before .before .before .before .before .before .before .before .before .before .before .before .before .before .before .args .rule .now) (c .before .before .before .before .before .before .before .before .before .before .before .before .before .before .before .before .before .before .before .before .args .file .now) (c .before .before .before .before .before .before .before .before .before .before .before .before .before .before .before .before .before .parse-forced .ensures) (c .before .before .before .before .before .before .before .before .before .before .before .before .before .before .before .enum-told .given .1) (c .before .before .before .before .before .before .before .before .before .before .before .before .before .before .parse-head .ensures) (c .before .before .before .before .before .before .before .before .before .before .before .before .head .given .1) (c .before .before .before .before .before .before .before .before .before .before .parse-first .ensures) (c .before .before .before .before .before .before .before .before .before .rule-of .ensures) (c .before .before .before .before .before .before .before .enum-told4 .given .1) (c .before .before .before .before .before .before .parse-rest .ensures) (c .before .before .before .before .enum-told6 .given .1) refl refl
+returns-5 c = is-loaded (c .before .before .before .before .before .before .before .before .before .before .before .before .before .before .before .before .before .before .args .options) (c .before .before .before .before .before .before .before .before .before .before .before .before .before .before .before .before .before .before .args .rule .now) (c .before .before .before .before .before .before .before .before .before .before .before .before .before .before .before .before .before .before .args .file .now) (c .before .before .before .before .before .before .before .before .before .before .before .before .before .before .before .parse-forced .ensures) (c .before .before .before .before .before .before .before .before .before .before .before .before .before .enum-told .given .1) (c .before .before .before .before .before .before .before .before .before .before .before .before .parse-head .ensures) (c .before .before .before .before .before .before .before .before .before .before .head .given .1) (c .before .before .before .before .before .before .before .before .parse-first .ensures) (c .before .before .before .before .before .before .before .rule-of .ensures) (c .before .before .before .before .before .enum-told4 .given .1) (c .before .before .before .before .parse-rest .ensures) (c .before .before .enum-told6 .given .1) refl (c .record-of .ensures)
 
 pub load-spec : {M : Type 1} → statement M
 load-spec =
@@ -103,5 +113,5 @@ load-spec =
     enum-told-7
     refused-requires-4
     returns-4
-    sub-t24
+    record-of-requires
     returns-5)

@@ -6,6 +6,8 @@ use Rattle.messages.proofs.Told.{told}
 use borrow.Author.Needs.{needs}
 use Rattle.container.proofs.moved.Statement.{statement}
 use Rattle.container.proofs.moved.Tie as tie
+use Rattle.container.proofs.moved.Reads as reads
+use Rattle.container.proofs.moved.Lts as lts
 
 enum-known-p : tie.Need-enum-known-p
 enum-known-p c = search needs

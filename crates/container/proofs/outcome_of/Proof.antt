@@ -3,6 +3,8 @@ use Rattle.messages.proofs.Told.{told}
 use borrow.Author.Needs.{needs}
 use Rattle.container.proofs.outcome_of.Statement.{statement}
 use Rattle.container.proofs.outcome_of.Tie as tie
+use Rattle.container.proofs.outcome_of.Reads as reads
+use Rattle.container.proofs.outcome_of.Lts as lts
 
 enum-told : tie.Need-enum-told
 enum-told c = search needs

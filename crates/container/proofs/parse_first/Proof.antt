@@ -2,6 +2,10 @@ use Rattle.container.proofs.Loading.{none-first, header-fits, first-tol
 use borrow.Author.Needs.{needs}
 use Rattle.container.proofs.parse_first.Statement.{statement}
 use Rattle.container.proofs.parse_first.Tie as tie
+use Rattle.container.proofs.parse_first.Reads as reads
+use Rattle.container.proofs.parse_first.Lts as lts
+use Rattle.container.proofs.header_at.Reads as header-at-reads
+use Rattle.messages.proofs.parse_entry.Reads as parse-entry-reads
 
 returns : tie.Need-returns
 returns c = none-first _ _ _ _ _ (c .if1 .taken)

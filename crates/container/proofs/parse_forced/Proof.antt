@@ -2,6 +2,10 @@ use Rattle.container.proofs.Rules.{forced-read, none-forced}
 use borrow.Author.Needs.{needs}
 use Rattle.container.proofs.parse_forced.Statement.{statement}
 use Rattle.container.proofs.parse_forced.Tie as tie
+use Rattle.container.proofs.parse_forced.Reads as reads
+use Rattle.container.proofs.parse_forced.Lts as lts
+use Rattle.container.proofs.default_ruled.Reads as default-ruled-reads
+use Rattle.container.proofs.parse_rule.Reads as parse-rule-reads
 
 parse-rule-requires : tie.Need-parse-rule-requires
 parse-rule-requires c κs = search needs

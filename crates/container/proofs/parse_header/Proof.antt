@@ -4,6 +4,11 @@ use Rattle.container.proofs.Headers.{malformed, inside, unknown, rule-f
 use borrow.Author.Needs.{needs}
 use Rattle.container.proofs.parse_header.Statement.{statement}
 use Rattle.container.proofs.parse_header.Tie as tie
+use Rattle.container.proofs.parse_header.Reads as reads
+use Rattle.container.proofs.parse_header.Lts as lts
+use Rattle.container.proofs.is_known.Reads as is-known-reads
+use Rattle.container.proofs.place_of.Reads as place-of-reads
+use Rattle.header.proofs.parse_metadata.Reads as parse-metadata-reads
 
 parse-metadata-requires : tie.Need-parse-metadata-requires
 parse-metadata-requires c κs = search needs

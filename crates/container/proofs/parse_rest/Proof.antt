@@ -5,6 +5,10 @@ use Rattle.container.proofs.Rest.{Left, left-none, left-stop, left-more
 use borrow.Author.Needs.{needs}
 use Rattle.container.proofs.parse_rest.Statement.{statement}
 use Rattle.container.proofs.parse_rest.Tie as tie
+use Rattle.container.proofs.parse_rest.Reads as reads
+use Rattle.container.proofs.parse_rest.Lts as lts
+use Rattle.container.proofs.entry_outcome.Reads as entry-outcome-reads
+use Rattle.messages.proofs.parse_entry.Reads as parse-entry-reads
 
 abbrev Inv-loop : tie.InvT-loop
 Inv-loop file big count originals translations i₀ i = Left big file originals translations count i

@@ -4,6 +4,10 @@ use native.Mathlib.Omega.{arith}
 use borrow.Author.Needs.{needs}
 use Rattle.container.proofs.rule_of.Statement.{statement}
 use Rattle.container.proofs.rule_of.Tie as tie
+use Rattle.container.proofs.rule_of.Reads as reads
+use Rattle.container.proofs.rule_of.Lts as lts
+use Rattle.container.proofs.default_ruled.Reads as default-ruled-reads
+use Rattle.container.proofs.parse_rule.Reads as parse-rule-reads
 
 enum-known-first : tie.Need-enum-known-first
 enum-known-first c = search needs

@@ -2,6 +2,9 @@ use Rattle.layout.proofs.Marks.{with-context}
 use borrow.Author.Needs.{needs}
 use Rattle.layout.proofs.after_context.Statement.{statement}
 use Rattle.layout.proofs.after_context.Tie as tie
+use Rattle.layout.proofs.after_context.Reads as reads
+use Rattle.layout.proofs.after_context.Lts as lts
+use Rattle.text.proofs.find_byte_from.Reads as find-byte-from-reads
 
 add-id : tie.Need-add-id
 add-id c = search needs

@@ -3,6 +3,9 @@ use Rattle.layout.proofs.Cells.{string-out, string-in}
 use borrow.Author.Needs.{needs}
 use Rattle.layout.proofs.cell_at.Statement.{statement}
 use Rattle.layout.proofs.cell_at.Tie as tie
+use Rattle.layout.proofs.cell_at.Reads as reads
+use Rattle.layout.proofs.cell_at.Lts as lts
+use Rattle.layout.proofs.read_u32.Reads as read-u32-reads
 
 read-u32-requires : tie.Need-read-u32-requires
 read-u32-requires c κs = search needs

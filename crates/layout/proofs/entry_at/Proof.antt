@@ -6,6 +6,10 @@ use native.Mathlib.Omega.{arith}
 use borrow.Author.Needs.{needs}
 use Rattle.layout.proofs.entry_at.Statement.{statement}
 use Rattle.layout.proofs.entry_at.Tie as tie
+use Rattle.layout.proofs.entry_at.Reads as reads
+use Rattle.layout.proofs.entry_at.Lts as lts
+use Rattle.layout.proofs.split.Reads as split-reads
+use Rattle.layout.proofs.string_at.Reads as string-at-reads
 
 string-at-requires : tie.Need-string-at-requires
 string-at-requires c κs = search needs

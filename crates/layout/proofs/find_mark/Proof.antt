@@ -8,6 +8,8 @@ use Rattle.layout.proofs.Marks.{from-start, plain-nul, plain-four, plai
 use borrow.Author.Needs.{needs}
 use Rattle.layout.proofs.find_mark.Statement.{statement}
 use Rattle.layout.proofs.find_mark.Tie as tie
+use Rattle.layout.proofs.find_mark.Reads as reads
+use Rattle.layout.proofs.find_mark.Lts as lts
 
 abbrev Inv-loop : tie.InvT-loop
 Inv-loop o i₀ i = Counted plain o 0 i

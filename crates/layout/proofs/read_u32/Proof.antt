@@ -3,6 +3,9 @@ use Rattle.layout.proofs.Cells.{read-big, read-little}
 use borrow.Author.Needs.{needs}
 use Rattle.layout.proofs.read_u32.Statement.{statement}
 use Rattle.layout.proofs.read_u32.Tie as tie
+use Rattle.layout.proofs.read_u32.Reads as reads
+use Rattle.layout.proofs.read_u32.Lts as lts
+use Rattle.layout.proofs.from_bytes.Reads as from-bytes-reads
 
 add-from-bytes : tie.Need-add-from-bytes
 add-from-bytes c = search needs

@@ -7,6 +7,9 @@ use borrow.Author.Needs.{needs}
 use native.Mathlib.Omega.{arith}
 use Rattle.layout.proofs.segment_in.Statement.{statement}
 use Rattle.layout.proofs.segment_in.Tie as tie
+use Rattle.layout.proofs.segment_in.Reads as reads
+use Rattle.layout.proofs.segment_in.Lts as lts
+use Rattle.text.proofs.find_byte_from.Reads as find-byte-from-reads
 
 abbrev Inv-loop : tie.InvT-loop
 Inv-loop translation start form left₀ at₀ left at = (at ≤ length translation) × Sought translation start form left at

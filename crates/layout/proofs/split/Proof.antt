@@ -5,6 +5,11 @@ use native.Mathlib.Omega.{arith}
 use borrow.Author.Needs.{needs}
 use Rattle.layout.proofs.split.Statement.{statement}
 use Rattle.layout.proofs.split.Tie as tie
+use Rattle.layout.proofs.split.Reads as reads
+use Rattle.layout.proofs.split.Lts as lts
+use Rattle.layout.proofs.after_context.Reads as after-context-reads
+use Rattle.layout.proofs.find_mark.Reads as find-mark-reads
+use Rattle.text.proofs.find_byte_from.Reads as find-byte-from-reads
 
 find-mark-requires : tie.Need-find-mark-requires
 find-mark-requires c κs = search needs

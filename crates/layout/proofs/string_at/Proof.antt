@@ -5,6 +5,9 @@ use native.Mathlib.Omega.{arith}
 use borrow.Author.Needs.{needs}
 use Rattle.layout.proofs.string_at.Statement.{statement}
 use Rattle.layout.proofs.string_at.Tie as tie
+use Rattle.layout.proofs.string_at.Reads as reads
+use Rattle.layout.proofs.string_at.Lts as lts
+use Rattle.layout.proofs.cell_at.Reads as cell-at-reads
 
 returns : tie.Need-returns
 returns c = no-cell _ _ _ _ (omega arith)

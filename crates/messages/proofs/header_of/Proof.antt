@@ -4,6 +4,8 @@ use Rattle.messages.proofs.Told.{told}
 use borrow.Author.Needs.{needs}
 use Rattle.messages.proofs.header_of.Statement.{statement}
 use Rattle.messages.proofs.header_of.Tie as tie
+use Rattle.messages.proofs.header_of.Reads as reads
+use Rattle.messages.proofs.header_of.Lts as lts
 
 enum-known-translation : tie.Need-enum-known-translation
 enum-known-translation c = search needs

@@ -4,6 +4,8 @@ use Rattle.messages.proofs.Told.{told}
 use borrow.Author.Needs.{needs}
 use Rattle.messages.proofs.message.Statement.{statement}
 use Rattle.messages.proofs.message.Tie as tie
+use Rattle.messages.proofs.message.Reads as reads
+use Rattle.messages.proofs.message.Lts as lts
 
 enum-known-translation : tie.Need-enum-known-translation
 enum-known-translation c = search needs

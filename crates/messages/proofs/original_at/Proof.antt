@@ -3,6 +3,10 @@ use native.Mathlib.Omega.{arith}
 use borrow.Author.Needs.{needs}
 use Rattle.messages.proofs.original_at.Statement.{statement}
 use Rattle.messages.proofs.original_at.Tie as tie
+use Rattle.messages.proofs.original_at.Reads as reads
+use Rattle.messages.proofs.original_at.Lts as lts
+use Rattle.messages.proofs.parse_original.Reads as parse-original-reads
+use Rattle.layout.proofs.string_at.Reads as string-at-reads
 
 string-at-requires : tie.Need-string-at-requires
 string-at-requires c κs = search needs

@@ -2,6 +2,12 @@ use Rattle.messages.proofs.Entries.{read-refused, read-named, read-empt
 use borrow.Author.Needs.{needs}
 use Rattle.messages.proofs.parse_entry.Statement.{statement}
 use Rattle.messages.proofs.parse_entry.Tie as tie
+use Rattle.messages.proofs.parse_entry.Reads as reads
+use Rattle.messages.proofs.parse_entry.Lts as lts
+use Rattle.messages.proofs.header_of.Reads as header-of-reads
+use Rattle.messages.proofs.message.Reads as message-reads
+use Rattle.messages.proofs.original_at.Reads as original-at-reads
+use Rattle.messages.proofs.translation_at.Reads as translation-at-reads
 
 original-at-requires : tie.Need-original-at-requires
 original-at-requires c κs = search needs

@@ -6,6 +6,10 @@ use Rattle.messages.proofs.Originals.{context-fits, id-fits, context-wr
 use borrow.Author.Needs.{needs}
 use Rattle.messages.proofs.parse_original.Statement.{statement}
 use Rattle.messages.proofs.parse_original.Tie as tie
+use Rattle.messages.proofs.parse_original.Reads as reads
+use Rattle.messages.proofs.parse_original.Lts as lts
+use Rattle.layout.proofs.split.Reads as split-reads
+use Rattle.text.proofs.is_utf8.Reads as is-utf8-reads
 
 split-requires : tie.Need-split-requires
 split-requires c κs = search needs
