@@ -4,7 +4,7 @@ use mathlib.Core.Path.{_≡_, refl}
 use mathlib.Core.Bool.{false}
 use mathlib.Core.List.{List, [], _∷_, _++_, map}
 use lib.ListN.{take, set}
-use Rattle.text.specs.Utf8.{utf8, rest}
+use Rattle.utf8.specs.Utf8.{utf8, rest}
 use Rattle.text.specs.Trim.{front, trim, trimStart, trimEnd}
 use Rattle.text.specs.Bytes.{same, begins, first}
 use Rattle.text.specs.Cut.{cut, every}

@@ -5,11 +5,11 @@ use mathlib.Core.Bool.{Bool, true, false, not}
 use mathlib.Core.List.{List, [], _∷_}
 use native.Mathlib.Omega.{arith}
 use lib.ListN.{length, drop, getD}
-use lib.Dec.{eqb}
-use borrow.Author.Tests.{eq-eqb, ne-eqb, eqb-true, lt-ltb, le-ltb}
+use lib.Dec.{eqb, leb}
+use borrow.Author.Tests.{eq-eqb, ne-eqb, eqb-true, lt-ltb, le-ltb, leb-true}
 use Rattle.text.specs.Trim.{front}
-use Rattle.text.specs.Bytes.{place}
-use Rattle.text.proofs.Tests.{taken, left, by-test}
+use Rattle.text.specs.Bytes.{within, place}
+use Rattle.text.proofs.Tests.{taken, left, by-test, and-left}
 use Rattle.text.proofs.Front.{front-in, front-out}
 use Rattle.text.proofs.Walk.{rest-at, rest-end}
 use Rattle.layout.specs.Mo.{contextEnd, idStart, idEnd, hasContext}
@@ -23,6 +23,9 @@ plain-four b e = rw e
 
 pub plain-other : (b : ℕ) → (b ≡ 0 → ⊥) → (b ≡ 4 → ⊥) → plain b ≡ true
 plain-other b h k = rw (ne-eqb b 0 h, ne-eqb b 4 k)
+
+pub plain-high : (b : ℕ) → within (5, 0xFF) b ≡ true → plain b ≡ true
+plain-high b e = let h : 5 ≤ b = leb-true 5 b (and-left (leb 5 b) (leb b 0xFF) e) in plain-other b (λ z. absurd (omega arith)) (λ z. absurd (omega arith))
 
 -- counted from the start
 pub from-start : (w : ℕ → Bool) (s : List ℕ) {i : ℕ} → i ≡ 0 + front w (drop 0 s) → i ≡ front w s

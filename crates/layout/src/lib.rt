@@ -83,11 +83,11 @@ pub fn string_at(file: &[u8], big: bool, table: usize, i: usize) -> Stretch
     cell_at(file, table + 8 * i, big)
 }
 
-// The first NUL or byte 4, or the length.
+// The first NUL or byte 4, or the length. Bytes from 5 on are passed over in blocks.
 fn find_mark(o: &[u8]) -> usize
     ensures { λ r. ⌜ r ≡ front plain (now (o .entry)) ⌝ }
 {
-    let mut i = 0;
+    let mut i = text::span(o, 0, 5, 0xFF);
     while i < o.len() {
         if o[i] == 0 {
             return i;
@@ -95,7 +95,7 @@ fn find_mark(o: &[u8]) -> usize
         if o[i] == 4 {
             return i;
         }
-        i += 1;
+        i = text::span(o, i + 1, 5, 0xFF);
     }
     i
 }

@@ -8,7 +8,7 @@ use native.Mathlib.Omega.{arith}
 use lib.ListN.{length}
 use lib.Dec.{leb, ltb, eqb}
 use borrow.Author.Tests.{eqb-true}
-use Rattle.text.specs.Utf8.{utf8}
+use Rattle.utf8.specs.Utf8.{utf8}
 use Rattle.text.specs.Cut.{every}
 use Rattle.text.proofs.Tests.{taken, left, by-test}
 use Rattle.layout.specs.Mo.{word, string, original, context, id, idEnd, ended, segments, translated, keyed, entry}

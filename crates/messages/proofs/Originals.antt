@@ -7,11 +7,11 @@ use native.Mathlib.Omega.{arith}
 use lib.ListN.{length, take, drop, length-drop}
 use lib.Seq.{length-take-le}
 use borrow.Author.Tests.{lt-ltb, le-ltb, ltb-true, eq-eqb, ne-eqb}
-use Rattle.text.specs.Utf8.{utf8}
+use Rattle.utf8.specs.Utf8.{utf8}
 use Rattle.text.specs.Bytes.{place}
 use Rattle.text.specs.Cut.{every}
 use Rattle.text.proofs.Tests.{taken, left, by-test}
-use Rattle.text.proofs.Texts.{right-by-pieces}
+use Rattle.utf8.proofs.Texts.{right-by-pieces}
 use Rattle.text.proofs.Cuts.{place-length}
 use Rattle.layout.specs.Mo.{string, contextEnd, idStart, idEnd, hasContext, context, id, segments}
 use Rattle.layout.specs.Promise.{Splits}

@@ -3,7 +3,7 @@
 ghost use mathlib.Core.Path.{_≡_};
 ghost use Prim.Native.Nat.{_+_, _-_, _≤_};
 ghost use lib.ListN.{length, take, drop};
-ghost use Rattle.text.specs.Utf8.{utf8};
+ghost use Rattle.utf8.specs.Utf8.{utf8};
 ghost use Rattle.layout.specs.Mo.{string};
 ghost use Rattle.messages.specs.Messages.{orderOf, tables, headOf, originalOf, originalIn, translationIn, joined, readAt};
 use layout::Stretch;
@@ -105,13 +105,13 @@ fn parse_original(original: &[u8], i: usize) -> Original
     let context = parts.context;
     let id = parts.id;
     let end = parts.end;
-    if !text::is_utf8(&original[..context]) {
+    if !utf8::is_utf8(&original[..context]) {
         return Original::Refused(Error::DecodingError);
     }
     if original.len() <= end {
         return Original::Refused(Error::Eof);
     }
-    if !text::is_utf8(&original[id..end]) {
+    if !utf8::is_utf8(&original[id..end]) {
         return Original::Refused(Error::DecodingError);
     }
     if id < end {
@@ -139,7 +139,7 @@ fn is_text(file: &[u8], start: usize, end: usize) -> bool
     requires { ⌜ (start ≤ end) × (end ≤ length (now file)) ⌝ }
     ensures { λ r. ⌜ r ≡ utf8 (take (end - start) (drop start (now (file .entry)))) ⌝ }
 {
-    text::is_utf8(&file[start..end])
+    utf8::is_utf8(&file[start..end])
 }
 
 fn translation_at(file: &[u8], big: bool, translations: usize, i: usize) -> Translation

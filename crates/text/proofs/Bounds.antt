@@ -1,14 +1,10 @@
--- A byte within two bounds, and the row of RFC 3629's table that it begins. Assumes nothing.
+-- A byte within two bounds. Assumes nothing.
 use Prim.Native.Nat.{ℕ, _<_, _≤_}
-use mathlib.Core.Path.{_≡_, refl, _∙_}
-use native.Mathlib.Omega.{arith}
-use mathlib.Core.Bool.{Bool, true, false, _&&_}
-use mathlib.Core.List.{List, [], _∷_, _++_}
-use mathlib.Core.Option.{none, some}
-use lib.Dec.{leb, ltb}
-use borrow.Author.Tests.{le-leb, lt-leb, ltb-true}
-use Rattle.text.specs.Utf8.{Bytes, Row, after}
-use Rattle.text.proofs.Tests.{taken, left, and-none, and-left, and-right}
+use mathlib.Core.Path.{_≡_}
+use mathlib.Core.Bool.{true, false, _&&_}
+use lib.Dec.{leb}
+use borrow.Author.Tests.{le-leb, lt-leb}
+use Rattle.text.proofs.Tests.{and-none}
 
 module _ (lo hi b : ℕ) where
   pub under : b < lo → (leb lo b && leb b hi) ≡ false
@@ -19,34 +15,3 @@ module _ (lo hi b : ℕ) where
 
   pub inside : lo ≤ b → b ≤ hi → (leb lo b && leb b hi) ≡ true
   inside h k = rw (le-leb lo b h, le-leb b hi k)
-
--- every row's first bytes end below lo; begin above hi
-abbrev pub ended : ℕ → List Row → Bool
-ended lo [] = true
-ended lo (row ∷ rows) = ltb (row .0 .1) lo && ended lo rows
-
-abbrev pub later : ℕ → List Row → Bool
-later hi [] = true
-later hi (row ∷ rows) = ltb hi (row .0 .0) && later hi rows
-
--- rows that end below b are passed over
-passed : (pre rows : List Row) (lo b : ℕ) → ended lo pre ≡ true → lo ≤ b → after (pre ++ rows) b ≡ after rows b
-passed [] rows lo b e h = refl
-passed (row ∷ pre) rows lo b e h =
-    left _ _ (over (row .0 .0) (row .0 .1) b (omega (arith, ltb-true (row .0 .1) lo (and-left (ltb (row .0 .1) lo) (ended lo pre) e))))
-    ∙ passed pre rows lo b (and-right (ltb (row .0 .1) lo) (ended lo pre) e) h
-
--- b begins the row after them
-pub row-at : (pre : List Row) (lo hi : ℕ) (rs : List Bytes) (post : List Row) (b : ℕ) → ended lo pre ≡ true → lo ≤ b → b ≤ hi
-    → after (pre ++ ((lo, hi), rs) ∷ post) b ≡ some rs
-row-at pre lo hi rs post b e h k = passed pre (((lo, hi), rs) ∷ post) lo b e h ∙ taken _ _ (inside lo hi b h k)
-
-none-later : (rows : List Row) (hi b : ℕ) → later hi rows ≡ true → b ≤ hi → after rows b ≡ none
-none-later [] hi b e h = refl
-none-later (row ∷ rows) hi b e h =
-    left _ _ (under (row .0 .0) (row .0 .1) b (omega (arith, ltb-true hi (row .0 .0) (and-left (ltb hi (row .0 .0)) (later hi rows) e))))
-    ∙ none-later rows hi b (and-right (ltb hi (row .0 .0)) (later hi rows) e) h
-
--- b lies between the rows
-pub no-row : (pre post : List Row) (lo hi b : ℕ) → ended lo pre ≡ true → later hi post ≡ true → lo ≤ b → b ≤ hi → after (pre ++ post) b ≡ none
-no-row pre post lo hi b e f h k = passed pre post lo b e h ∙ none-later post hi b f k

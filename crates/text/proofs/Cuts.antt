@@ -10,10 +10,35 @@ use lib.Seq.{take-all, drop-drop}
 use lib.Dec.{eqb}
 use Rattle.text.specs.Bytes.{place}
 use Rattle.text.specs.Cut.{cut, onto}
-use Rattle.text.proofs.Tests.{by-test}
+use Rattle.text.proofs.Tests.{taken, left, by-test}
 use Rattle.text.proofs.Front.{front-in, front-out}
 use Rattle.text.proofs.Trimming.{front-length}
-use Rattle.text.proofs.Texts.{Pieces, cut-at, cut-on, cut-some}
+
+-- a cut has a first piece
+pub record Pieces (ps : List (List ℕ)) : Type 0 where
+  pub head : List ℕ
+  pub more : List (List ℕ)
+  pub is : ps ≡ head ∷ more
+
+onto-some : (b : ℕ) (ps : List (List ℕ)) → Pieces (onto b ps)
+onto-some b [] = record { head = b ∷ []; more = []; is = refl }
+onto-some b (p ∷ ps) = record { head = b ∷ p; more = ps; is = refl }
+
+pub cut-at : (x b : ℕ) (s : List ℕ) → eqb b x ≡ true → cut x (b ∷ s) ≡ [] ∷ cut x s
+unfolding cut
+cut-at x b s e = taken _ _ e
+
+pub cut-on : (x b : ℕ) (s : List ℕ) → eqb b x ≡ false → cut x (b ∷ s) ≡ onto b (cut x s)
+unfolding cut
+cut-on x b s e = left _ _ e
+
+pub cut-some : (x : ℕ) (s : List ℕ) → Pieces (cut x s)
+unfolding cut
+cut-some x [] = record { head = []; more = []; is = refl }
+cut-some x (b ∷ s) =
+    by-test (Pieces (cut x (b ∷ s))) (eqb b x)
+    (λ e. record { head = []; more = cut x s; is = cut-at x b s e })
+    (λ e. let o = onto-some b (cut x s) in record { head = o .head; more = o .more; is = cut-on x b s e ∙ o .is })
 
 module _ (x : ℕ) where
   pub at-once : (b : ℕ) (s : List ℕ) → eqb b x ≡ true → place x (b ∷ s) ≡ 0

@@ -1,12 +1,14 @@
 -- The bytes of a set at the front of a text, as a loop counts them. Assumes nothing.
 use Prim.Native.Nat.{ℕ, suc, _+_, _<_, _≤_}
-use mathlib.Core.Path.{_≡_, ap, _∙_}
+use mathlib.Core.Path.{_≡_, refl, ap, _∙_}
 use mathlib.Core.Bool.{Bool, true, false}
-use mathlib.Core.List.{List, _∷_}
+use mathlib.Core.List.{List, [], _∷_}
 use native.Mathlib.Omega.{arith}
 use lib.ListN.{length, getD, drop}
+use lib.Seq.{drop-drop}
 use Rattle.text.specs.Trim.{front}
-use Rattle.text.proofs.Tests.{taken, left}
+pub use Rattle.text.specs.Promise.{Counted}
+use Rattle.text.proofs.Tests.{taken, left, by-test}
 use Rattle.text.proofs.Walk.{rest-at, rest-end}
 
 module _ (w : ℕ → Bool) (b : ℕ) (s : List ℕ) where
@@ -17,10 +19,6 @@ module _ (w : ℕ → Bool) (b : ℕ) (s : List ℕ) where
   pub front-out : w b ≡ false → front w (b ∷ s) ≡ 0
   unfolding front
   front-out e = left _ _ e
-
--- the bytes from at up to i are of the set
-abbrev pub Counted : (ℕ → Bool) → List ℕ → ℕ → ℕ → Type 0
-Counted w s at i = at + front w (drop at s) ≡ i + front w (drop i s)
 
 module _ (w : ℕ → Bool) (s : List ℕ) (at i : ℕ) where
   none-left : length s ≤ i → front w (drop i s) ≡ 0
@@ -41,3 +39,29 @@ module _ (w : ℕ → Bool) (s : List ℕ) (at i : ℕ) where
 
   pub counted-more : i < length s → w (getD s i 0) ≡ true → Counted w s at i → Counted w s at (i + 1)
   counted-more h f e = omega (arith, goes h f)
+
+-- four bytes of the set
+pub four-in : (w : ℕ → Bool) (s : List ℕ) (i : ℕ) → i + 4 ≤ length s → w (getD s i 0) ≡ true → w (getD s (i + 1) 0) ≡ true
+    → w (getD s (i + 2) 0) ≡ true → w (getD s (i + 3) 0) ≡ true → Counted w s i (i + 4)
+four-in w s i h p q r t =
+    let e : i + 1 + 1 ≡ i + 2 = omega arith in
+    let f : i + 2 + 1 ≡ i + 3 = omega arith in
+    let g : i + 3 + 1 ≡ i + 4 = omega arith in
+    let one : Counted w s i (i + 1) = counted-more w s i i (omega arith) p refl in
+    let two : Counted w s i (i + 2) = rw (e) at (counted-more w s i (i + 1) (omega arith) q one) in
+    let three : Counted w s i (i + 3) = rw (f) at (counted-more w s i (i + 2) (omega arith) r two) in
+    rw (g) at (counted-more w s i (i + 3) (omega arith) t three)
+
+-- bytes of a smaller set at the front are of the set
+narrow : (w v : ℕ → Bool) → ((b : ℕ) → v b ≡ true → w b ≡ true) → (s : List ℕ) → front w s ≡ front v s + front w (drop (front v s) s)
+unfolding front
+narrow w v f [] = refl
+narrow w v f (b ∷ s) =
+    by-test (front w (b ∷ s) ≡ front v (b ∷ s) + front w (drop (front v (b ∷ s)) (b ∷ s))) (v b)
+    (λ e. rw (front-in v b s e, front-in w b s (f b e)) (omega (arith, narrow w v f s)))
+    (λ e. rw (front-out v b s e) (omega arith))
+
+pub counted-narrow : (w v : ℕ → Bool) → ((b : ℕ) → v b ≡ true → w b ≡ true) → (s : List ℕ) (from : ℕ) {i : ℕ} → i ≡ from + front v (drop from s) → Counted w s from i
+counted-narrow w v f s from {i} e =
+    let z : drop (front v (drop from s)) (drop from s) ≡ drop i s = rw (e) (drop-drop (front v (drop from s)) from s) in
+    omega (arith, rw (z) at (narrow w v f (drop from s)))

@@ -6,11 +6,8 @@ pub mod Bounds
 pub mod Trimming
 pub mod Same
 pub mod Sought
-pub mod Chars
-pub mod Texts
 pub mod Cuts
 pub mod Placed
 pub mod Parts
-pub mod Scalars
 pub mod Middle
 pub mod Unique

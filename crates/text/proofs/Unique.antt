@@ -8,8 +8,8 @@ use denote.Ref.{now}
 use borrow.Fn.Kinds.{Dens, resT, endedOf}
 use Rattle.promise.proofs.One.{One}
 use Rattle.text.specs.declared.Part.{Part}
-use Rattle.text.proofs.is_utf8.Reads as is-utf8
-use Rattle.text.proofs.is_utf8.Kinds as is-utf8-kinds
+use Rattle.text.proofs.span.Reads as span
+use Rattle.text.proofs.span.Kinds as span-kinds
 use Rattle.text.proofs.trimmed.Reads as trimmed
 use Rattle.text.proofs.trimmed.Kinds as trimmed-kinds
 use Rattle.text.proofs.trim.Reads as trim
@@ -29,8 +29,8 @@ use Rattle.text.proofs.equal_small.Kinds as equal-small-kinds
 use Rattle.text.proofs.find.Reads as find
 use Rattle.text.proofs.find.Kinds as find-kinds
 
-pub is-utf8-one : One 1 is-utf8-kinds.ps is-utf8-kinds.r is-utf8.Post
-is-utf8-one κs a u v x y p q = p ∙ sym q
+pub span-one : One 1 span-kinds.ps span-kinds.r span.Post
+span-one κs a u v x y p q = p ∙ sym q
 
 abbrev part : ℕ → ℕ → Part
 part x y = record { start = x; len = y }

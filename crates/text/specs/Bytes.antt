@@ -16,6 +16,10 @@ abbrev pub bytes : Str.String → List ℕ
 bytes Str.String.[] = []
 bytes (Str.String._∷_ c s) = code c ∷ bytes s
 
+-- a byte is one of those from one to another, both included
+abbrev pub within : ℕ × ℕ → ℕ → Bool
+within r b = leb (r .0) b && leb b (r .1)
+
 -- the two texts are the same
 unfoldable pub same : List ℕ → List ℕ → Bool
 same [] [] = true

@@ -1,121 +1,70 @@
-// Texts of bytes: the UTF-8 test, trimming, and the small questions that the layers above share.
-// Not in the Rust, which has them from std; from RFC 3629 and document 01.
+// Texts of bytes: trimming, and the small questions that the layers above share. Not in the Rust, which has them from std.
 ghost use mathlib.Core.Path.{_≡_};
 ghost use mathlib.Core.List.{map};
 ghost use Prim.Native.Nat.{_+_, _<_, _≤_};
 ghost use lib.ListN.{length, drop};
-ghost use Rattle.text.specs.Utf8.{utf8};
 ghost use Rattle.text.specs.Trim.{inSet, front, trim, trimEnd};
-ghost use Rattle.text.specs.Bytes.{same, begins, first, place, small, read};
-ghost use Rattle.text.specs.Promise.{Leads, stands, CharAt, Tails, Trims};
+ghost use Rattle.text.specs.Bytes.{within, same, begins, first, place, small, read};
+ghost use Rattle.text.specs.Promise.{Outside, Four, Counted, Trims};
 
-// What a first byte asks for: no more bytes, a second one within bounds and then so many tails, or it begins no character.
-enum Lead {
-    Alone,
-    Then(u8, u8, usize),
-    Wrong,
-}
-
-fn lead_of(b: u8) -> Lead
-    ensures { λ r. ⌜ Leads b r ⌝ }
+// 1 for a byte that is not within the bounds.
+fn outside(b: u8, lo: u8, hi: u8) -> u8
+    ensures { λ r. ⌜ Outside (lo, hi) b r ⌝ }
 {
-    if b < 0x80 {
-        return Lead::Alone;
-    }
-    if b < 0xC2 {
-        return Lead::Wrong;
-    }
-    if b < 0xE0 {
-        return Lead::Then(0x80, 0xBF, 0);
-    }
-    if b < 0xE1 {
-        return Lead::Then(0xA0, 0xBF, 1);
-    }
-    if b < 0xED {
-        return Lead::Then(0x80, 0xBF, 1);
-    }
-    if b < 0xEE {
-        return Lead::Then(0x80, 0x9F, 1);
-    }
-    if b < 0xF0 {
-        return Lead::Then(0x80, 0xBF, 1);
-    }
-    if b < 0xF1 {
-        return Lead::Then(0x90, 0xBF, 2);
-    }
-    if b < 0xF4 {
-        return Lead::Then(0x80, 0xBF, 2);
-    }
-    if b < 0xF5 {
-        return Lead::Then(0x80, 0x8F, 2);
-    }
-    Lead::Wrong
-}
-
-fn stands_at(s: &[u8], i: usize, lo: u8, hi: u8) -> bool
-    ensures { λ r. ⌜ r ≡ stands (now (s .entry)) i (lo, hi) ⌝ }
-{
-    if s.len() <= i {
-        return false;
-    }
-    let b = s[i];
     if b < lo {
-        return false;
+        return 1;
     }
-    b <= hi
+    if hi < b {
+        return 1;
+    }
+    0
 }
 
-// The length of the character at i, whose first two bytes are right, 0 where its tails are not.
-fn tails_len(s: &[u8], i: usize, tails: usize) -> usize
-    requires { ⌜ Tails (now s) i tails ⌝ }
-    ensures { λ r. ⌜ CharAt (now (s .entry)) i r ⌝ }
+// Whether four bytes are all within the bounds. They are added up and not tested one by one, so that the machine takes them at once.
+fn four_within(s: &[u8], i: usize, lo: u8, hi: u8) -> bool
+    requires { ⌜ i + 4 ≤ length (now s) ⌝ }
+    ensures { λ r. ⌜ Four (lo, hi) (now (s .entry)) i r ⌝ }
 {
-    if tails == 0 {
-        return 2;
-    }
-    if !stands_at(s, i + 2, 0x80, 0xBF) {
-        return 0;
-    }
-    if tails == 1 {
-        return 3;
-    }
-    if !stands_at(s, i + 3, 0x80, 0xBF) {
-        return 0;
-    }
-    4
+    outside(s[i], lo, hi)
+        + outside(s[i + 1], lo, hi)
+        + outside(s[i + 2], lo, hi)
+        + outside(s[i + 3], lo, hi)
+        == 0
 }
 
-// The length of the character that stands at i, 0 where none does.
-fn char_len(s: &[u8], i: usize) -> usize
-    requires { ⌜ i < length (now s) ⌝ }
-    ensures { λ r. ⌜ CharAt (now (s .entry)) i r ⌝ }
+// Past as many blocks of four bytes within the bounds as there are.
+fn blocks_within(s: &[u8], from: usize, lo: u8, hi: u8) -> usize
+    requires { ⌜ from ≤ length (now s) ⌝ }
+    ensures { λ r. ⌜ (r ≤ length (now (s .entry))) × Counted (within (lo, hi)) (now (s .entry)) from r ⌝ }
 {
-    let first = lead_of(s[i]);
-    match first {
-        Lead::Alone => 1,
-        Lead::Wrong => 0,
-        Lead::Then(lo, hi, tails) => {
-            if !stands_at(s, i + 1, lo, hi) {
-                return 0;
-            }
-            tails_len(s, i, tails)
+    let n = s.len();
+    let mut i = from;
+    while 4 <= n - i {
+        if four_within(s, i, lo, hi) {
+            i += 4;
+        } else {
+            return i;
         }
     }
+    i
 }
 
-// The UTF-8 test: RFC 3629.
-pub fn is_utf8(s: &[u8]) -> bool
-    ensures { λ r. ⌜ r ≡ utf8 (now (s .entry)) ⌝ }
+// The first place from a place on of a byte that is not within the bounds, or the text's length.
+pub fn span(s: &[u8], from: usize, lo: u8, hi: u8) -> usize
+    ensures { λ r. ⌜ r ≡ from + front (within (lo, hi)) (drop from (now (s .entry))) ⌝ }
 {
-    let mut i = 0;
+    if s.len() < from {
+        return from;
+    }
+    let mut i = blocks_within(s, from, lo, hi);
     while i < s.len() {
-        let n = char_len(s, i);
-        if n == 0 {
-            return false;
+        if outside(s[i], lo, hi) == 0 {
+            i += 1;
+        } else {
+            return i;
         }
-        i += n;
     }
-    true
+    i
 }
 
 // The bytes that are trimmed: header names, values and rules of six, a charset label of five.

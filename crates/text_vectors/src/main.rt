@@ -16,19 +16,19 @@ fn end_line() {
 }
 
 fn one(a: u8) {
-    digit(text::is_utf8(&[a]));
+    digit(utf8::is_utf8(&[a]));
 }
 
 fn two(a: u8, b: u8) {
-    digit(text::is_utf8(&[a, b]));
+    digit(utf8::is_utf8(&[a, b]));
 }
 
 fn three(a: u8, b: u8, c: u8) {
-    digit(text::is_utf8(&[a, b, c]));
+    digit(utf8::is_utf8(&[a, b, c]));
 }
 
 fn four(a: u8, b: u8, c: u8, d: u8) {
-    digit(text::is_utf8(&[a, b, c, d]));
+    digit(utf8::is_utf8(&[a, b, c, d]));
 }
 
 // RFC 3629, section 4: UTF8-1 00-7F
@@ -173,8 +173,8 @@ fn row_f4() {
 
 // No bytes, a byte order mark, text of every length of character, and the same with its last byte cut off.
 fn texts() {
-    digit(text::is_utf8(b""));
-    digit(text::is_utf8(&[0xEF, 0xBB, 0xBF]));
+    digit(utf8::is_utf8(b""));
+    digit(utf8::is_utf8(&[0xEF, 0xBB, 0xBF]));
     let mixed = [
         0x61,
         0xC3,
@@ -188,10 +188,10 @@ fn texts() {
         0x98,
         0x80,
     ];
-    digit(text::is_utf8(&mixed));
-    digit(text::is_utf8(&mixed[..10]));
-    digit(text::is_utf8(&mixed[1..]));
-    digit(text::is_utf8(&mixed[2..]));
+    digit(utf8::is_utf8(&mixed));
+    digit(utf8::is_utf8(&mixed[..10]));
+    digit(utf8::is_utf8(&mixed[1..]));
+    digit(utf8::is_utf8(&mixed[2..]));
     end_line();
 }
 

@@ -5,14 +5,11 @@ use Prim.Native.Nat.{ℕ}
 use mathlib.Core.Bool.{Bool, true, false, _&&_}
 use mathlib.Core.List.{List, [], _∷_}
 use mathlib.Core.Option.{Option, none, some}
-use lib.Dec.{leb}
+use Rattle.text.specs.Bytes.{within}
 
 -- the bytes from one to another, both included
 abbrev pub Bytes : Type 0
 Bytes = ℕ × ℕ
-
-abbrev pub within : Bytes → ℕ → Bool
-within r b = leb (r .0) b && leb b (r .1)
 
 abbrev pub tail : Bytes
 tail = (0x80, 0xBF)

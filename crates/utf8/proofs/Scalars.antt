@@ -10,10 +10,12 @@ use native.Mathlib.Omega.{arith}
 use lib.ListN.{length, take, drop}
 use lib.Dec.{leb, ltb}
 use borrow.Author.Tests.{lt-ltb, le-ltb, leb-true, ltb-true, ltb-false}
-use Rattle.text.specs.Utf8.{Bytes, Row, tail, table, within, after, rest, utf8}
-use Rattle.text.specs.Scalar.{Scalar, low, high, six, encode, Text, end, char}
+use Rattle.text.specs.Bytes.{within}
+use Rattle.utf8.specs.Utf8.{Bytes, Row, tail, table, after, rest, utf8}
+use Rattle.utf8.specs.Scalar.{Scalar, low, high, six, encode, Text, end, char}
 use Rattle.text.proofs.Tests.{never, taken, left, by-test, and-left, and-right}
-use Rattle.text.proofs.Bounds.{inside, row-at, ended}
+use Rattle.text.proofs.Bounds.{inside}
+use Rattle.utf8.proofs.Rows.{row-at, ended}
 
 -- the encoding of a character, by its range
 module _ (c : ℕ) where

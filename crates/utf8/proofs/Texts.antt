@@ -9,10 +9,13 @@ use native.Mathlib.Omega.{arith}
 use lib.ListN.{drop}
 use lib.Dec.{leb, eqb}
 use borrow.Author.Tests.{leb-true, eqb-true}
-use Rattle.text.specs.Utf8.{Bytes, Row, table, within, after, rest, utf8}
+use Rattle.text.specs.Bytes.{within}
+use Rattle.utf8.specs.Utf8.{Bytes, Row, table, after, rest, utf8}
 use Rattle.text.specs.Cut.{cut, onto, every}
 use Rattle.text.proofs.Tests.{never, taken, left, by-test, and-left, and-right, and-assoc}
-use Rattle.text.proofs.Bounds.{under, row-at}
+use Rattle.text.proofs.Bounds.{under}
+use Rattle.text.proofs.Cuts.{Pieces, cut-at, cut-on, cut-some}
+use Rattle.utf8.proofs.Rows.{row-at}
 
 pub empty-right : utf8 [] ≡ true
 unfolding utf8 rest
@@ -59,32 +62,6 @@ found-high (row ∷ rows) b rs e f =
     by-test (high rs ≡ true) (within (row .0) b)
     (λ t. let q : row .1 ≡ rs = cc (sym (taken (some (row .1)) (after rows b) t) ∙ f) in rw q at (and-left (high (row .1)) (all-high rows) e))
     (λ t. found-high rows b rs (and-right (high (row .1)) (all-high rows) e) (sym (left (some (row .1)) (after rows b) t) ∙ f))
-
--- a cut has a first piece
-pub record Pieces (ps : List (List ℕ)) : Type 0 where
-  pub head : List ℕ
-  pub more : List (List ℕ)
-  pub is : ps ≡ head ∷ more
-
-onto-some : (b : ℕ) (ps : List (List ℕ)) → Pieces (onto b ps)
-onto-some b [] = record { head = b ∷ []; more = []; is = refl }
-onto-some b (p ∷ ps) = record { head = b ∷ p; more = ps; is = refl }
-
-pub cut-at : (x b : ℕ) (s : List ℕ) → eqb b x ≡ true → cut x (b ∷ s) ≡ [] ∷ cut x s
-unfolding cut
-cut-at x b s e = taken _ _ e
-
-pub cut-on : (x b : ℕ) (s : List ℕ) → eqb b x ≡ false → cut x (b ∷ s) ≡ onto b (cut x s)
-unfolding cut
-cut-on x b s e = left _ _ e
-
-pub cut-some : (x : ℕ) (s : List ℕ) → Pieces (cut x s)
-unfolding cut
-cut-some x [] = record { head = []; more = []; is = refl }
-cut-some x (b ∷ s) =
-    by-test (Pieces (cut x (b ∷ s))) (eqb b x)
-    (λ e. record { head = []; more = cut x s; is = cut-at x b s e })
-    (λ e. let o = onto-some b (cut x s) in record { head = o .head; more = o .more; is = cut-on x b s e ∙ o .is })
 
 -- the first piece ends the character begun, and the others are right
 abbrev pieces : List Bytes → List (List ℕ) → Bool
