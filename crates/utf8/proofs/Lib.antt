@@ -1,5 +1,6 @@
 pub mod Rows
+pub mod Chars
+pub mod Ascii
 pub mod Texts
 pub mod Scalars
-pub mod Machine
 pub mod Unique

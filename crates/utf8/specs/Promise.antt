@@ -1,45 +1,48 @@
--- What the function behind the public one promises: tables of a machine with nine states.
-use Prim.Native.Nat.{ℕ, zero, suc, _*_, _/_, _%_, _^_, _<_}
+-- What the functions behind the public one promise.
+use Prim.Native.Nat.{ℕ, _+_, _<_, _≤_}
 use mathlib.Core.Path.{_≡_}
-use mathlib.Core.Bool.{true, false}
+use mathlib.Core.Bool.{Bool, false, _&&_}
 use mathlib.Core.List.{List, [], _∷_}
 use mathlib.Core.Option.{Option, none, some}
-use lib.ListN.{getD}
+use lib.ListN.{length, drop, getD, replicate}
+use lib.Dec.{ltb}
 use Rattle.text.specs.Bytes.{within}
-use Rattle.utf8.specs.Utf8.{Bytes, tail, table, after}
+use Rattle.utf8.specs.Utf8.{Bytes, tail, table, after, rest, utf8}
+use Rattle.utf8.specs.declared.Lead.{Lead}
+use Rattle.utf8.specs.declared.Lead.the-variants.{Alone, Then, Wrong}
 
--- in each state the bytes that are to come to end the character begun; none where the text is wrong
-abbrev pub states : List (Option (List Bytes))
-states =
-    some []
-    ∷ none
-    ∷ some (tail ∷ [])
-    ∷ some ((0xA0, 0xBF) ∷ tail ∷ [])
-    ∷ some ((0x80, 0x9F) ∷ tail ∷ [])
-    ∷ some (tail ∷ tail ∷ [])
-    ∷ some ((0x90, 0xBF) ∷ tail ∷ tail ∷ [])
-    ∷ some (tail ∷ tail ∷ tail ∷ [])
-    ∷ some ((0x80, 0x8F) ∷ tail ∷ tail ∷ [])
-    ∷ []
+-- what has to follow a first byte
+abbrev pub asked : Lead → Option (List Bytes)
+asked Alone = some []
+asked (Then lo hi tails) = some ((lo, hi) ∷ replicate tails tail)
+asked Wrong = none
 
-abbrev pub stateIn : List (Option (List Bytes)) → ℕ → Option (List Bytes)
-stateIn [] q = none
-stateIn (o ∷ os) zero = o
-stateIn (o ∷ os) (suc q) = stateIn os q
+abbrev pub tailsOf : Lead → ℕ
+tailsOf Alone = 0
+tailsOf (Then lo hi tails) = tails
+tailsOf Wrong = 0
 
--- what is to come after one byte more
-abbrev pub next : Option (List Bytes) → ℕ → Option (List Bytes)
-next none b = none
-next (some []) b = after table b
-next (some (r ∷ rs)) b = elim (within r b) [ true ↦ some rs | false ↦ none ]
+pub record Leads (b : ℕ) (r : Lead) : Type 0 where
+  pub is : after table b ≡ asked r
+  pub few : tailsOf r ≤ 2
 
--- six bits that name a state in which o is to come
-pub record Names (x : ℕ) (o : Option (List Bytes)) : Type 0 where
-  pub state : ℕ
-  pub few : state < 9
-  pub bits : x ≡ 6 * state
-  pub is : stateIn states state ≡ o
+-- the byte at a place is there, and within the bounds
+unfoldable pub stands : List ℕ → ℕ → Bytes → Bool
+stands s i r = ltb i (length s) && within r (getD s i 0)
 
--- by the class of a byte and its row, each state turns into the right one
-pub record Tables (class rows : List ℕ) : Type 0 where
-  pub step : (q b : ℕ) → q < 9 → b < 256 → Names (getD rows (getD class b 0 % 16) 0 / 2 ^ (6 * q) % 64) (next (stateIn states q) b)
+-- the character that begins at i: its first n bytes are read, and rs are to come
+pub record Reached (s : List ℕ) (i n : ℕ) (rs : List Bytes) : Type 0 where
+  pub is : utf8 (drop i s) ≡ rest rs (drop (i + n) s)
+  pub begun : 0 < n
+  pub inside : i + n ≤ length s
+
+-- the first two bytes of the character at i are right, and so many tails are to come
+pub record Tails (s : List ℕ) (i k : ℕ) : Type 0 where
+  pub reached : Reached s i 2 (replicate k tail)
+  pub few : k ≤ 2
+
+-- the length of the character at i, or 0 where there is none
+pub record CharAt (s : List ℕ) (i r : ℕ) : Type 0 where
+  pub right : 0 < r → utf8 (drop i s) ≡ utf8 (drop (i + r) s)
+  pub wrong : r ≡ 0 → utf8 (drop i s) ≡ false
+  pub inside : i + r ≤ length s

@@ -1,0 +1,24 @@
+-- The three tests are those of the definition, in its order. Assumes nothing.
+use borrow.Author.Tests.{le-ltb, lt-ltb, le-leb, lt-leb}
+use Rattle.utf8.specs.Promise.{stands}
+use borrow.Author.Needs.{needs}
+use Rattle.utf8.proofs.stands_at.Statement.{statement}
+use Rattle.utf8.proofs.stands_at.Tie as tie
+
+returns : tie.Need-returns
+unfolding stands
+returns c = simp (le-ltb _ _ (c .if1 .taken))
+
+shared-slice-read-b : tie.Need-shared-slice-read-b
+shared-slice-read-b c = search needs
+
+returns-2 : tie.Need-returns-2
+unfolding stands
+returns-2 c = simp (lt-ltb _ _ (c .before .before .if1 .left), lt-leb _ _ (c .if2 .taken))
+
+returns-3 : tie.Need-returns-3
+unfolding stands
+returns-3 c = simp (lt-ltb _ _ (c .before .before .if1 .left), le-leb _ _ (c .if2 .left))
+
+pub stands-at-spec : {M : Type 1} → statement M
+stands-at-spec = tie.close (tie.spec returns shared-slice-read-b returns-2 returns-3)
