@@ -1,15 +1,19 @@
--- What an accepted file is: its record's fields are words of the file, and every index below the count is an entry. Assumes nothing.
+-- What an accepted file is: its record's fields are words of the file, every index below the count is an entry, and its segments are
+-- UTF-8. Assumes nothing.
 use Prim.Native.Nat.{ℕ, zero, suc, _+_, _<_, _≤_}
 use mathlib.Core.Path.{_≡_, refl}
-use mathlib.Core.Bool.{Bool}
+use mathlib.Core.Bool.{Bool, true}
 use mathlib.Core.List.{List}
 use native.Mathlib.Omega.{arith}
 use lib.ListN.{length}
 use lib.Dec.{eqb}
 use borrow.Author.Tests.{eqb-true, eqb-false}
+use Rattle.text.specs.Utf8.{utf8}
+use Rattle.text.specs.Cut.{every}
 use Rattle.text.proofs.Tests.{by-test}
 use Rattle.rules.specs.Tree.{Tree}
-use Rattle.layout.specs.Mo.{entry}
+use Rattle.layout.specs.Mo.{entry, segments}
+use Rattle.layout.specs.declared.Entry.the-variants as entries
 use Rattle.messages.specs.Messages.{headOf, readAt}
 use Rattle.container.specs.Catalog.{Step, next, stop, andThen, forcedRule, entryStep, entriesFrom, Answer, accepted, refused, answered, catalog, loadWith, load}
 use Rattle.container.specs.Promise.{Loads, readOutcome}
@@ -21,7 +25,7 @@ use Rattle.messages.specs.declared.Head.{Head}
 use Rattle.messages.specs.declared.Head.the-variants as head
 use Rattle.messages.specs.declared.Read.{Read}
 use Rattle.messages.specs.declared.Read.the-variants as read
-use Rattle.messages.proofs.Entries.{IsEntry, read-entry, Words, head-words}
+use Rattle.messages.proofs.Entries.{IsEntry, read-entry, read-right, Words, head-words}
 
 not-refused : (q : Read) → readOutcome q ≡ outcome.Loaded → (x : Error) → q ≡ read.Refused x → ⊥
 not-refused (read.Refused y) e x f = let z : _≡_ {A = ℕ} 0 1 = cc in omega arith
@@ -101,6 +105,19 @@ every-entry o f s r h e i l = by-answer (load o f s) refl h
         rw (d .order-is, d .originals-at, d .translations-at)
         (read-entry b s x y i (not-refused _ (all-passed o s b x y k 0 (w .before) t (w .entries-are) i (omega arith) (omega (arith, d .count-is)))))
     by-answer (refused x) q g = absurd (let p = g .outcome-is in let z : _≡_ {A = ℕ} 0 1 = cc in omega arith)
+
+-- and every segment of its translation is UTF-8
+pub every-right : (o : Options) (f s : List ℕ) (r : loaded.Loaded) → Loads (load o f s) r → r .outcome ≡ outcome.Loaded → (i : ℕ) → i < r .record .count
+    → {a n c m : ℕ} → entry (r .record .big) s (r .record .originals) (r .record .translations) i ≡ entries.At a n c m → every utf8 (segments s c m) ≡ true
+every-right o f s r h e i l {a} {n} {c} {m} g = by-answer (load o f s) refl h
+  where
+    by-answer : (w : Answer) → load o f s ≡ w → Loads w r → every utf8 (segments s c m) ≡ true
+    by-answer (accepted z b k x y t) q p =
+        let w = accepted-whole o s f q in
+        let d = p .keeps in
+        read-right b s x y i (not-refused _ (all-passed o s b x y k 0 (w .before) t (w .entries-are) i (omega arith) (omega (arith, d .count-is))))
+        (rw (d .order-is, d .originals-at, d .translations-at) at g)
+    by-answer (refused x) q p = absurd (let u = p .outcome-is in let z : _≡_ {A = ℕ} 0 1 = cc in omega arith)
 
 -- the count is the word at 8, in the file's byte order, and the tables are the words at 12 and 16
 pub accepted-words : (o : Options) (f s : List ℕ) {n : ℕ} {b : Bool} {k x y : ℕ} {t : Tree} → load o f s ≡ accepted n b k x y t → Words s b k x y

@@ -4,4 +4,4 @@ pub mod Rest
 pub mod Loading
 pub mod Accepted
 mod Cases
-mod Unique
+pub mod Unique

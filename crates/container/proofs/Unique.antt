@@ -48,7 +48,7 @@ same-numbers : {n n' k k' x x' y y' m m' r r' : ℕ} {b b' : Bool} → n ≡ n' 
     → numbers n b k x y m r ≡ numbers n' b' k' x' y' m' r'
 same-numbers p1 p2 p3 p4 p5 p6 p7 = rw (p1, p2, p3, p4, p5, p6, p7)
 
-holds-one : {n : ℕ} {b : Bool} {k x y : ℕ} {t : Tree} (u v : Record) → Holds n b k x y t u → Holds n b k x y t v → u ≡ v
+pub holds-one : {n : ℕ} {b : Bool} {k x y : ℕ} {t : Tree} (u v : Record) → Holds n b k x y t u → Holds n b k x y t v → u ≡ v
 holds-one u v p q =
     ap₂ made
     (same-numbers (p .size-is ∙ sym (q .size-is)) (p .order-is ∙ sym (q .order-is)) (p .count-is ∙ sym (q .count-is)) (p .originals-at ∙ sym (q .originals-at))

@@ -4,4 +4,5 @@ pub mod Scan
 pub mod Answers
 pub mod Said
 pub mod Rated
+pub mod Found
 pub mod Unique

@@ -1,5 +1,5 @@
--- Heads and entries as they were read: only entry 0 is a header, one that is not refused is an entry, and the head's fields are words of
--- the file. Assumes nothing.
+-- Heads and entries as they were read: only entry 0 is a header, one that is not refused is an entry with UTF-8 segments, and the
+-- head's fields are words of the file. Assumes nothing.
 use Prim.Native.Nat.{ℕ, _+_, _≤_}
 use mathlib.Core.Path.{_≡_, refl, sym, ap, _∙_}
 use mathlib.Core.Bool.{Bool, true, _&&_}
@@ -143,6 +143,45 @@ pub read-entry : (b : Bool) (s : List ℕ) (x y i : ℕ) → ((z : Error) → re
 unfolding readAt entry
 read-entry b s x y i e =
     keyed-entry s i (string b s x i) (string b s y i) (both (originalIn s i (string b s x i)) (translationIn s (string b s y i)) e)
+
+-- an entry that was read has a translation whose segments are all UTF-8
+record Right (s : List ℕ) (z : Stretch) : Type 0 where
+  start : ℕ
+  len : ℕ
+  at : z ≡ stretch.At start len
+  right : every utf8 (segments s start len) ≡ true
+
+right-in : (o : Original) (s : List ℕ) (z : Stretch) → ((x : Error) → joined o (translationIn s z) ≡ read.Refused x → ⊥) → Right s z
+right-in o s z n =
+    let h = both o (translationIn s z) n in
+    let e = translation-at s z (h .at) in
+    record { start = h .start; len = h .len; at = e; right = all-right (h .start) (h .len) (sym (ap (translationIn s) e) ∙ h .at) }
+  where
+    all-right : (a l : ℕ) → translationIn s (stretch.At a l) ≡ translation.At a l → every utf8 (segments s a l) ≡ true
+    all-right a l f =
+        by-test (every utf8 (segments s a l) ≡ true) (every utf8 (segments s a l))
+        (λ t. t)
+        (λ t. let q : translation.Refused DecodingError ≡ translation.At a l = sym (left _ _ t) ∙ f in absurd (let z : _≡_ {A = ℕ} 0 1 = cc in omega arith))
+
+keyed-right : (s : List ℕ) (u v : Stretch) → Right s v → {a n b m : ℕ} → keyed s u v ≡ entries.At a n b m → every utf8 (segments s b m) ≡ true
+keyed-right s (stretch.At c l) v h {a} {n} {b} {m} e =
+    by-test (every utf8 (segments s b m) ≡ true) (ended (original s c l))
+    (λ t.
+    let q : entries.At c (idEnd (original s c l)) (h .start) (h .len) ≡ entries.At a n b m =
+    sym (taken _ _ t ∙ ap (λ (z : Stretch). translated z c (idEnd (original s c l))) (h .at)) ∙ e in
+    let x : h .start ≡ b = cc in
+    let y : h .len ≡ m = cc in
+    rw (← x, ← y) (h .right))
+    (λ t.
+    let q : entries.NoEntry ≡ entries.At a n b m = sym (left (translated v c (idEnd (original s c l))) entries.NoEntry t) ∙ e in
+    absurd (let z : _≡_ {A = ℕ} 0 1 = cc in omega arith))
+keyed-right s stretch.Outside v h e = absurd (let z : _≡_ {A = ℕ} 0 1 = cc in omega arith)
+
+pub read-right : (b : Bool) (s : List ℕ) (x y i : ℕ) → ((z : Error) → readAt b s x y i ≡ read.Refused z → ⊥) → {a n c m : ℕ}
+    → entry b s x y i ≡ entries.At a n c m → every utf8 (segments s c m) ≡ true
+unfolding readAt entry
+read-right b s x y i n e =
+    keyed-right s (string b s x i) (string b s y i) (right-in (originalIn s i (string b s x i)) s (string b s y i) n) e
 
 -- the count is the word at 8, in the file's byte order, and the tables are the words at 12 and 16
 pub record Words (s : List ℕ) (b : Bool) (k x y : ℕ) : Type 0 where

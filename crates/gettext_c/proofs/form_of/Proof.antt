@@ -1,0 +1,28 @@
+-- The numbers of each case. Assumes nothing.
+use Rattle.gettext_c.specs.Host.{valueOf}
+use Rattle.messages.proofs.Told.{told}
+use borrow.Author.Needs.{needs}
+use Rattle.gettext_c.proofs.form_of.Statement.{statement}
+use Rattle.gettext_c.proofs.form_of.Tie as tie
+
+enum-known-resolved : tie.Need-enum-known-resolved
+enum-known-resolved c = search needs
+
+enum-told : tie.Need-enum-told
+enum-told c = search needs
+
+enum-told-2 : tie.Need-enum-told-2
+enum-told-2 c = search needs
+
+returns : tie.Need-returns
+returns c = told valueOf (c .before .resolved .given .1)
+
+returns-2 : tie.Need-returns-2
+returns-2 c = told valueOf (c .enum-told .given .1)
+
+returns-3 : tie.Need-returns-3
+returns-3 c = told valueOf (c .enum-told2 .given .1)
+
+pub form-of-spec : {M : Type 1} → statement M
+form-of-spec =
+    tie.close (tie.spec enum-known-resolved enum-told enum-told-2 returns returns-2 returns-3)

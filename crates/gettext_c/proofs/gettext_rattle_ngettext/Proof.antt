@@ -1,0 +1,20 @@
+-- What `lookup` finds by those tables, as numbers. Assumes nothing.
+use borrow.Author.Needs.{needs}
+use Rattle.gettext_c.proofs.gettext_rattle_ngettext.Statement.{statement}
+use Rattle.gettext_c.proofs.gettext_rattle_ngettext.Tie as tie
+
+tables-in-requires : tie.Need-tables-in-requires
+tables-in-requires c κs = search needs
+
+nfind-requires : tie.Need-nfind-requires
+nfind-requires c κs = search needs
+
+answer-of-requires : tie.Need-answer-of-requires
+answer-of-requires c κs = search needs
+
+returns : tie.Need-returns
+returns c = simp (c .answer-of .ensures, c .before .nfind .ensures, c .before .before .tables-in .ensures)
+
+pub gettext-rattle-ngettext-spec : {M : Type 1} → statement M
+gettext-rattle-ngettext-spec =
+    tie.close (tie.spec tables-in-requires nfind-requires answer-of-requires returns)

@@ -1,0 +1,112 @@
+-- The answers of the layers below as numbers. Document 01, "Numbers returned" and "The record".
+use Prim.Native.Nat.{ℕ}
+use mathlib.Core.Path.{_≡_}
+use mathlib.Core.Bool.{Bool, true, false, not}
+use lib.Dec.{eqb}
+use Rattle.rules.specs.Value.{truth}
+use Rattle.rules.specs.declared.Resolved.{Resolved}
+use Rattle.rules.specs.declared.Resolved.the-variants as resolved
+use Rattle.rules.specs.declared.Rated.{Rated}
+use Rattle.rules.specs.declared.Rated.the-variants as rated
+use Rattle.rules.specs.declared.Fit.{Fit}
+use Rattle.rules.specs.declared.Fit.the-variants as fit
+use Rattle.plurals.specs.declared.Reading.{Reading}
+use Rattle.plurals.specs.declared.Reading.the-variants.{Shipped, Standard}
+use Rattle.messages.specs.Messages as messages
+use Rattle.container.specs.declared.Options.{Options}
+use Rattle.container.specs.declared.Outcome.{Outcome}
+use Rattle.container.specs.declared.Outcome.the-variants as outcome
+use Rattle.container.specs.declared.Record as below-record
+use Rattle.container.specs.declared.Loaded as below-loaded
+use Rattle.container.specs.Catalog as catalog
+use Rattle.container.specs.Promise as promise
+use Rattle.lookup.specs.Lookup as lookup
+use Rattle.lookup.specs.declared.Tables as tables
+use Rattle.lookup.specs.declared.Answer as answer
+use Rattle.lookup.specs.declared.Answer.the-variants.{Segment, Id, PluralId}
+use Rattle.gettext_c.specs.declared.Tables.{Tables}
+use Rattle.gettext_c.specs.declared.Record.{Record}
+use Rattle.gettext_c.specs.declared.Loaded.{Loaded}
+use Rattle.gettext_c.specs.declared.Answer.{Answer}
+use Rattle.gettext_c.specs.declared.Rating.{Rating}
+use Rattle.gettext_c.specs.declared.Fits.{Fits}
+use Rattle.gettext_c.specs.declared.Form.{Form}
+
+-- any number but 0 is yes
+abbrev pub isSet : ℕ → Bool
+isSet x = not (eqb x 0)
+
+abbrev pub readingOf : ℕ → Reading
+readingOf x = elim (isSet x) [ true ↦ Standard | false ↦ Shipped ]
+
+abbrev pub optionsOf : ℕ → ℕ → ℕ → Options
+optionsOf forced standard utf8 = record { forced = isSet forced; reading = readingOf standard; utf8 = isSet utf8 }
+
+abbrev pub outcomeNumber : Outcome → ℕ
+outcomeNumber outcome.Loaded = 0
+outcomeNumber (outcome.Refused e) = messages.numberOf e
+
+abbrev pub tablesOf : below-record.Record → Tables
+tablesOf r = record {
+  length = r .length;
+  count = r .count;
+  originals = r .originals;
+  translations = r .translations;
+  big = truth (r .big);
+}
+
+abbrev pub recordOf : below-record.Record → Record
+recordOf r = record {
+  tables = tablesOf r;
+  nodes = r .nodes;
+  root = r .root;
+  values = r .values;
+  places = r .places;
+  codes = r .codes;
+}
+
+abbrev pub loadedOf : below-loaded.Loaded → Loaded
+loadedOf r = record { number = outcomeNumber (r .outcome); catalog = recordOf (r .record) }
+
+pub record IsEmpty (r : Record) : Type 0 where
+  pub below : below-record.Record
+  pub empty : promise.Empty below
+  pub is : r ≡ recordOf below
+
+pub record Loads (a : catalog.Answer) (r : Loaded) : Type 0 where
+  pub below : below-loaded.Loaded
+  pub loads : promise.Loads a below
+  pub is : r ≡ loadedOf below
+
+abbrev pub tablesIn : Tables → tables.Tables
+tablesIn t = record {
+  length = t .length;
+  big = isSet (t .big);
+  count = t .count;
+  originals = t .originals;
+  translations = t .translations;
+}
+
+-- 0 is the segment, 1 the id, 2 the plural id
+abbrev pub fallback : ℕ → ℕ → Answer
+fallback number which = record { number = number; which = which; entry = 0; form = 0; start = 0; len = 0 }
+
+abbrev pub answerOf : answer.Answer → Answer
+answerOf (Segment i form start len) = record { number = 0; which = 0; entry = i; form = form; start = start; len = len }
+answerOf (Id why) = fallback (lookup.numberOf why) 1
+answerOf (PluralId why) = fallback (lookup.numberOf why) 2
+
+abbrev pub ratingOf : Rated → Rating
+ratingOf (rated.Range l h) = record { number = 0; rated = 1; lowest = l; highest = h }
+ratingOf rated.Unrated = record { number = 0; rated = 0; lowest = 0; highest = 0 }
+ratingOf rated.NoTree = record { number = 11; rated = 0; lowest = 0; highest = 0 }
+
+abbrev pub fitsOf : Fit → Fits
+fitsOf fit.Yes = record { number = 0; fits = 1 }
+fitsOf fit.No = record { number = 0; fits = 0 }
+fitsOf fit.NoTree = record { number = 11; fits = 0 }
+
+abbrev pub valueOf : Resolved → Form
+valueOf (resolved.Form x) = record { number = 0; form = x }
+valueOf resolved.ZeroModulus = record { number = 10; form = 0 }
+valueOf resolved.NoTree = record { number = 11; form = 0 }

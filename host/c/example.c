@@ -1,0 +1,45 @@
+/* Loads a catalog and prints a plural for some counts: example CATALOG.mo */
+#include "gettext_rattle.h"
+
+#include <stdio.h>
+
+/* Writes the text with the count for its %d. A translation is data: it never goes to printf as a format. */
+static void print_count(gr_text t, uint64_t n)
+{
+    for (size_t i = 0; i < t.len; i++) {
+        if (i + 1 < t.len && t.text[i] == '%' && t.text[i + 1] == 'd') {
+            printf("%llu", (unsigned long long)n);
+            i++;
+        } else {
+            putchar(t.text[i]);
+        }
+    }
+    putchar('\n');
+}
+
+int main(int argc, char **argv)
+{
+    static char file[65536];
+    FILE *f = argc == 2 ? fopen(argv[1], "rb") : NULL;
+    if (f == NULL) {
+        fprintf(stderr, "usage: example CATALOG.mo\n");
+        return 2;
+    }
+    size_t size = fread(file, 1, sizeof file, f);
+    fclose(f);
+
+    gettext_rattle_record catalog;
+    uint32_t number = gr_load(file, size, NULL, GETTEXT_RATTLE_STANDARD, &catalog);
+    if (number != GETTEXT_RATTLE_OK) {
+        fprintf(stderr, "refused %u\n", (unsigned)number);
+        return 1;
+    }
+    gr_text title = gr_gettext(file, size, &catalog, "Your invoice");
+    printf("%.*s\n", (int)title.len, title.text);
+    for (uint64_t n = 0; n < 4; n++) {
+        print_count(gr_ngettext(file, size, &catalog, "%d page", "%d pages", n), n);
+    }
+    gr_text may = gr_pgettext(file, size, &catalog, "month", "May");
+    printf("%.*s\n", (int)may.len, may.text);
+    return 0;
+}

@@ -1,0 +1,513 @@
+//! Small files and rules: document 01's F and G with their variants, every refusal that a file can get, and the lookups over files made
+//! here.
+
+use gettext_rattle::{is_utf8, Catalog, Error, ParseOptions, Reading, Which};
+use std::mem::size_of;
+
+/// Document 01's file F: one entry, "a" translated as "b".
+const F: [u8; 48] = [
+    0xde, 0x12, 0x04, 0x95, 0, 0, 0, 0, 1, 0, 0, 0, 0x1c, 0, 0, 0, 0x24, 0, 0, 0, 0, 0, 0, 0, 0x2c,
+    0, 0, 0, 1, 0, 0, 0, 0x2c, 0, 0, 0, 1, 0, 0, 0, 0x2e, 0, 0, 0, 0x61, 0, 0x62, 0,
+];
+
+/// F with one byte made another.
+fn with(at: usize, byte: u8) -> Vec<u8> {
+    let mut file = F.to_vec();
+    file[at] = byte;
+    file
+}
+
+/// Document 01's file G: F with the forms "b" and "c".
+fn g() -> Vec<u8> {
+    let mut file = with(36, 3);
+    file.extend(b"c\0");
+    file.shrink_to_fit();
+    file
+}
+
+/// A file of these originals and translations, in this order and byte order.
+fn ordered(entries: &[(&[u8], &[u8])], word: fn(u32) -> [u8; 4]) -> Vec<u8> {
+    let count = entries.len() as u32;
+    let mut file = Vec::new();
+    for w in [
+        0x9504_12de,
+        0,
+        count,
+        28,
+        28 + 8 * count,
+        0,
+        28 + 16 * count,
+    ] {
+        file.extend(word(w));
+    }
+    let mut at = 28 + 16 * count;
+    let mut texts = Vec::new();
+    for text in entries
+        .iter()
+        .map(|e| e.0)
+        .chain(entries.iter().map(|e| e.1))
+    {
+        file.extend(word(text.len() as u32));
+        file.extend(word(at));
+        texts.extend(text);
+        texts.push(0);
+        at += text.len() as u32 + 1;
+    }
+    file.extend(texts);
+    // so that a read past the end is one past the memory too
+    file.shrink_to_fit();
+    file
+}
+
+fn made(entries: &[(&[u8], &[u8])]) -> Vec<u8> {
+    ordered(entries, u32::to_le_bytes)
+}
+
+/// A file with this header, and "x" translated as "y".
+fn headed(header: &[u8]) -> Vec<u8> {
+    made(&[(b"", header), (b"x", b"y")])
+}
+
+fn refusal(file: &[u8]) -> Option<Error> {
+    Catalog::parse(file).err()
+}
+
+fn read(rule: &str, reading: Reading) -> Result<Catalog<'static>, Error> {
+    ParseOptions::new()
+        .force_plural(rule)
+        .reading(reading)
+        .parse(&F)
+}
+
+/// The form that a rule names in the Standard reading.
+fn form(rule: &str, n: u64) -> Option<u64> {
+    read(rule, Reading::Standard).unwrap().form(n)
+}
+
+#[test]
+fn f_answers_its_own_bytes() {
+    let catalog = Catalog::parse(&F).unwrap();
+    assert_eq!(catalog.len(), 1);
+    let text = catalog.gettext("a");
+    assert_eq!(text, "b");
+    assert_eq!(text.as_ptr(), &F[46]);
+    let answer = catalog.answer_gettext("a");
+    assert_eq!(answer.number, 0);
+    assert_eq!(answer.which, Which::Segment { entry: 0, form: 0 });
+}
+
+#[test]
+fn an_absent_key_is_the_callers_own_text() {
+    let catalog = Catalog::parse(&F).unwrap();
+    let id = String::from("c");
+    let answer = catalog.answer_gettext(&id);
+    assert_eq!(answer.number, 0);
+    assert_eq!(answer.which, Which::Id);
+    assert_eq!(answer.text, "c");
+    assert_eq!(answer.text.as_ptr(), id.as_ptr());
+}
+
+#[test]
+fn files_that_end_early() {
+    assert_eq!(refusal(&F[..47]), Some(Error::Eof));
+    assert_eq!(refusal(&F[..27]), Some(Error::Eof));
+    assert_eq!(refusal(&[]), Some(Error::Eof));
+    // a count too large, an id without its NUL, a table past the end
+    assert_eq!(refusal(&with(8, 2)), Some(Error::Eof));
+    assert_eq!(refusal(&with(45, 0x62)), Some(Error::Eof));
+    assert_eq!(refusal(&with(12, 49)), Some(Error::Eof));
+}
+
+#[test]
+fn the_byte_after_a_translation_is_not_looked_at() {
+    let file = with(47, 0x7a);
+    assert_eq!(Catalog::parse(&file).unwrap().gettext("a"), "b");
+}
+
+#[test]
+fn another_magic() {
+    assert_eq!(refusal(&with(0, 0)), Some(Error::BadMagic));
+    assert_eq!(refusal(&with(3, 0x94)), Some(Error::BadMagic));
+}
+
+#[test]
+fn both_byte_orders() {
+    let entries: &[(&[u8], &[u8])] = &[(b"", b""), (b"x", b"y\0z")];
+    for file in [made(entries), ordered(entries, u32::to_be_bytes)] {
+        let catalog = Catalog::parse(&file).unwrap();
+        assert_eq!(catalog.len(), 2);
+        assert_eq!(catalog.gettext("x"), "y");
+        assert_eq!(catalog.ngettext("x", "xs", 2), "z");
+    }
+}
+
+#[test]
+fn texts_that_are_not_utf8() {
+    assert_eq!(refusal(&with(44, 0xff)), Some(Error::DecodingError));
+    assert_eq!(refusal(&with(46, 0x80)), Some(Error::DecodingError));
+    assert_eq!(
+        refusal(&made(&[(b"\xff\x04x", b"y")])),
+        Some(Error::DecodingError)
+    );
+    assert_eq!(
+        refusal(&made(&[(b"x", b"y\0\xed\xa0\x80")])),
+        Some(Error::DecodingError)
+    );
+}
+
+#[test]
+fn headers() {
+    // byte 44 made 04: an empty id in the empty context, whose header is "b"
+    assert_eq!(refusal(&with(44, 4)), Some(Error::MalformedMetadata));
+    assert_eq!(
+        refusal(&headed(b"no colon\n")),
+        Some(Error::MalformedMetadata)
+    );
+    assert_eq!(
+        refusal(&made(&[(b"x", b"y"), (b"", b"")])),
+        Some(Error::MisplacedMetadata)
+    );
+    assert_eq!(
+        refusal(&headed(b"Plural-Forms: plural=(;\n")),
+        Some(Error::PluralParsing)
+    );
+    assert_eq!(refusal(&headed(b"Content-Type: charset=UTF-8\n")), None);
+    let file = headed(b"Language: de\n");
+    let catalog = Catalog::parse(&file).unwrap();
+    assert_eq!(catalog.gettext(""), "Language: de\n");
+}
+
+#[test]
+fn another_charset_is_refused_unless_utf8_is_forced() {
+    let file = headed(b"Content-Type: text/plain; charset=iso-8859-1\n");
+    assert_eq!(refusal(&file), Some(Error::UnknownEncoding));
+    let catalog = ParseOptions::new().force_utf8().parse(&file).unwrap();
+    assert_eq!(catalog.gettext("x"), "y");
+    // it passes over the label alone
+    let wrong = made(&[(b"", b"Content-Type: charset=latin1\n"), (b"x", b"\xe4")]);
+    assert_eq!(
+        ParseOptions::new().force_utf8().parse(&wrong).unwrap_err(),
+        Error::DecodingError
+    );
+}
+
+#[test]
+fn a_long_rule() {
+    let longest = "!".repeat(511) + "n";
+    let catalog = read(&longest, Reading::Standard).unwrap();
+    assert_eq!(catalog.form(0), Some(1));
+    assert_eq!(catalog.form(7), Some(0));
+    let longer = "!".repeat(512) + "n";
+    assert_eq!(
+        read(&longer, Reading::Standard).unwrap_err(),
+        Error::RuleTooLong
+    );
+    let header = format!("Plural-Forms: plural={longer};\n");
+    assert_eq!(
+        refusal(&headed(header.as_bytes())),
+        Some(Error::RuleTooLong)
+    );
+    // blanks at its ends do not count
+    assert!(read(&format!(" {longest}\n"), Reading::Shipped).is_ok());
+}
+
+#[test]
+fn errors_have_their_numbers_and_words() {
+    let all = [
+        Error::Eof,
+        Error::BadMagic,
+        Error::DecodingError,
+        Error::MalformedMetadata,
+        Error::MisplacedMetadata,
+        Error::PluralParsing,
+        Error::UnknownEncoding,
+        Error::RuleTooLong,
+        Error::PoolFull,
+    ];
+    for (i, e) in all.iter().enumerate() {
+        assert_eq!(e.number(), i as u32 + 1);
+    }
+    let e: Box<dyn std::error::Error> = Box::new(Error::BadMagic);
+    assert_eq!(e.to_string(), "bad magic number");
+    assert!(e.source().is_none());
+}
+
+#[test]
+fn g_has_two_forms() {
+    let file = g();
+    let catalog = Catalog::parse(&file).unwrap();
+    let one = catalog.answer_ngettext("a", "as", 1);
+    assert_eq!((one.number, one.text), (0, "b"));
+    assert_eq!(one.text.as_ptr(), &file[46]);
+    let two = catalog.answer_ngettext("a", "as", 2);
+    assert_eq!((two.number, two.text), (0, "c"));
+    assert_eq!(two.text.as_ptr(), &file[48]);
+    assert_eq!(two.which, Which::Segment { entry: 0, form: 1 });
+}
+
+#[test]
+fn contexts() {
+    let file = made(&[
+        (b"May", b"plain"),
+        (b"month\x04May\0Mays", b"Mai\0Maien"),
+        (b"\x04May", b"empty"),
+    ]);
+    let catalog = Catalog::parse(&file).unwrap();
+    assert_eq!(catalog.gettext("May"), "plain");
+    assert_eq!(catalog.pgettext("month", "May"), "Mai");
+    assert_eq!(catalog.pgettext("", "May"), "empty");
+    assert_eq!(catalog.pgettext("day", "May"), "May");
+    assert_eq!(catalog.npgettext("month", "May", "Mays", 1), "Mai");
+    assert_eq!(catalog.npgettext("month", "May", "Mays", 3), "Maien");
+    assert_eq!(catalog.npgettext("day", "May", "Mays", 3), "Mays");
+    // a key is one text: context, byte 4, id
+    assert_eq!(catalog.gettext("month\x04May"), "Mai");
+    let answer = catalog.answer_npgettext("month", "May", "Mays", 3);
+    assert_eq!(answer.which, Which::Segment { entry: 1, form: 1 });
+    assert_eq!(catalog.answer_pgettext("day", "May").which, Which::Id);
+}
+
+#[test]
+fn the_last_entry_with_a_key_counts() {
+    let file = made(&[(b"x", b"first"), (b"x", b"last")]);
+    let catalog = Catalog::parse(&file).unwrap();
+    assert_eq!(catalog.gettext("x"), "last");
+}
+
+#[test]
+fn an_absent_plural() {
+    let catalog = Catalog::parse(&F).unwrap();
+    let one = catalog.answer_ngettext("x", "xs", 1);
+    assert_eq!((one.number, one.text, one.which), (0, "x", Which::Id));
+    for n in [0, 2, u64::MAX] {
+        let many = catalog.answer_ngettext("x", "xs", n);
+        assert_eq!(
+            (many.number, many.text, many.which),
+            (0, "xs", Which::PluralId)
+        );
+    }
+}
+
+#[test]
+fn forms_beyond_those_of_the_translation() {
+    let file = made(&[(b"x\0xs", b"a\0b\0")]);
+    let catalog = ParseOptions::new().force_plural("n").parse(&file).unwrap();
+    assert_eq!(catalog.ngettext("x", "xs", 0), "a");
+    assert_eq!(catalog.ngettext("x", "xs", 1), "b");
+    // an empty form is a form
+    let empty = catalog.answer_ngettext("x", "xs", 2);
+    assert_eq!(empty.text, "");
+    assert_eq!(empty.which, Which::Segment { entry: 0, form: 2 });
+    // a form past them all is absent: 2^32 is not form 0
+    for n in [3, 1 << 32, u64::MAX] {
+        let answer = catalog.answer_ngettext("x", "xs", n);
+        assert_eq!(
+            (answer.number, answer.text, answer.which),
+            (0, "xs", Which::PluralId)
+        );
+    }
+}
+
+#[test]
+fn a_remainder_by_zero() {
+    let catalog = read("1%n", Reading::Standard).unwrap();
+    assert_eq!(catalog.form(0), None);
+    assert_eq!(catalog.form(2), Some(1));
+    let many = catalog.answer_ngettext("a", "as", 0);
+    assert_eq!(
+        (many.number, many.text, many.which),
+        (10, "as", Which::PluralId)
+    );
+    // also where no entry has the key
+    assert_eq!(catalog.answer_ngettext("z", "zs", 0).number, 10);
+    assert_eq!(catalog.answer_npgettext("c", "z", "zs", 0).number, 10);
+    let always = read("n%0", Reading::Shipped).unwrap();
+    let one = always.answer_ngettext("a", "as", 1);
+    assert_eq!((one.number, one.text, one.which), (10, "a", Which::Id));
+    // no rule is asked
+    assert_eq!(always.answer_gettext("a").number, 0);
+    assert_eq!(always.gettext("a"), "b");
+    assert_eq!(always.rating(), None);
+    assert!(!always.fits(u64::MAX));
+}
+
+#[test]
+fn a_forced_rule_stands_instead_of_the_headers() {
+    let file = headed(b"Plural-Forms: plural=(;\n");
+    let catalog = ParseOptions::new().force_plural("2").parse(&file).unwrap();
+    assert_eq!(catalog.form(1), Some(2));
+    assert_eq!(
+        read("", Reading::Standard).unwrap_err(),
+        Error::PluralParsing
+    );
+    // the header's rule, and the default where it has none
+    let file = headed(b"Plural-Forms: nplurals=3; plural=n%3;\n");
+    assert_eq!(Catalog::parse(&file).unwrap().form(5), Some(2));
+    let catalog = Catalog::parse(&F).unwrap();
+    assert_eq!((catalog.form(1), catalog.form(7)), (Some(0), Some(1)));
+}
+
+#[test]
+fn both_readings() {
+    for (rule, n, shipped, standard) in [
+        ("n%10%3", 5, 0, 2),
+        ("n>1 == 0", 2, 1, 0),
+        ("n==1 && 1 ? 2 : 3", 5, 0, 3),
+    ] {
+        assert_eq!(
+            read(rule, Reading::Shipped).unwrap().form(n),
+            Some(shipped),
+            "{rule}"
+        );
+        assert_eq!(
+            read(rule, Reading::Standard).unwrap().form(n),
+            Some(standard),
+            "{rule}"
+        );
+    }
+    for (rule, n, shipped) in [("(n1", 9, 9), ("+7", 1, 7)] {
+        assert_eq!(read(rule, Reading::Shipped).unwrap().form(n), Some(shipped));
+        assert_eq!(
+            read(rule, Reading::Standard).unwrap_err(),
+            Error::PluralParsing
+        );
+    }
+    assert_eq!(
+        read("0 ? n?1:2 : 3", Reading::Shipped).unwrap_err(),
+        Error::PluralParsing
+    );
+    assert_eq!(form("0 ? n?1:2 : 3", 1), Some(3));
+    // the default is the crate's own, for the header's rule too
+    let file = headed(b"Plural-Forms: plural=n%10%3;\n");
+    assert_eq!(Catalog::parse(&file).unwrap().form(5), Some(0));
+    let standard = ParseOptions::new().reading(Reading::Standard);
+    assert_eq!(standard.parse(&file).unwrap().form(5), Some(2));
+}
+
+#[test]
+fn numbers_of_64_bits() {
+    assert_eq!(form("18446744073709551615", 0), Some(u64::MAX));
+    assert_eq!(
+        read("18446744073709551616", Reading::Standard).unwrap_err(),
+        Error::PluralParsing
+    );
+    assert_eq!(form("n", u64::MAX), Some(u64::MAX));
+}
+
+#[test]
+fn ratings() {
+    let rating = |rule| read(rule, Reading::Standard).unwrap().rating();
+    assert_eq!(Catalog::parse(&F).unwrap().rating(), Some((0, 1)));
+    assert_eq!(rating("n"), Some((0, u64::MAX)));
+    assert_eq!(rating("3"), Some((3, 3)));
+    assert_eq!(rating("n ? 5 : 2"), Some((2, 5)));
+    assert_eq!(rating("n%10"), Some((0, 9)));
+    assert_eq!(rating("n%(n?3:4)"), Some((0, 3)));
+    assert_eq!(rating("5%n"), None);
+    // a part that is never reached unrates all the same
+    assert_eq!(rating("0 && 5%n"), None);
+}
+
+#[test]
+fn fitting() {
+    let tens = read("n%10", Reading::Standard).unwrap();
+    assert!(tens.fits(10));
+    assert!(!tens.fits(9));
+    assert!(!tens.fits(0));
+    let zero = read("0", Reading::Standard).unwrap();
+    assert!(zero.fits(1));
+    assert!(!zero.fits(0));
+    assert!(!read("5%n", Reading::Standard).unwrap().fits(u64::MAX));
+    assert!(Catalog::parse(&F).unwrap().fits(2));
+    assert!(!Catalog::parse(&F).unwrap().fits(1));
+}
+
+#[test]
+fn the_empty_catalog() {
+    let catalog = Catalog::empty();
+    assert!(catalog.is_empty());
+    assert_eq!(catalog.gettext("a"), "a");
+    assert_eq!(catalog.gettext(""), "");
+    assert_eq!(catalog.pgettext("c", "a"), "a");
+    assert_eq!(catalog.ngettext("a", "as", 1), "a");
+    assert_eq!(catalog.npgettext("c", "a", "as", 2), "as");
+    assert_eq!(catalog.answer_gettext("a").number, 0);
+    assert_eq!(catalog.rating(), Some((0, 1)));
+    assert_eq!(catalog.form(1), Some(0));
+}
+
+#[test]
+fn texts_beyond_ascii() {
+    let file = made(&[
+        ("größe".as_bytes(), "大きさ\0\u{10ffff}\u{feff}".as_bytes()),
+        (b"nothing", b""),
+    ]);
+    let catalog = Catalog::parse(&file).unwrap();
+    assert_eq!(catalog.gettext("größe"), "大きさ");
+    assert_eq!(catalog.ngettext("größe", "größen", 2), "\u{10ffff}\u{feff}");
+    let nothing = catalog.answer_gettext("nothing");
+    assert_eq!(nothing.text, "");
+    assert_eq!(nothing.which, Which::Segment { entry: 1, form: 0 });
+}
+
+#[test]
+fn bytes() {
+    let file = g();
+    let catalog = Catalog::parse(&file).unwrap();
+    assert_eq!(catalog.gettext_bytes(b"a"), b"b");
+    assert_eq!(catalog.ngettext_bytes(b"a", b"as", 2), b"c");
+    assert_eq!(catalog.ngettext_bytes(b"z", b"zs", 2), b"zs");
+    assert_eq!(catalog.pgettext_bytes(b"c", b"a"), b"a");
+    assert_eq!(catalog.npgettext_bytes(b"c", b"a", b"as", 1), b"a");
+    // an id that is no text comes back
+    assert_eq!(catalog.gettext_bytes(b"\xff\0"), b"\xff\0");
+    assert_eq!(
+        catalog.npgettext_bytes(b"\xff", b"\xfe", b"\xfd", 3),
+        b"\xfd"
+    );
+}
+
+#[test]
+fn utf8_as_the_standard_library_has_it() {
+    let same = |text: &[u8]| {
+        assert_eq!(
+            is_utf8(text),
+            std::str::from_utf8(text).is_ok(),
+            "{text:x?}"
+        )
+    };
+    same(b"");
+    for a in 0..=255 {
+        same(&[a]);
+        for b in 0..=255 {
+            same(&[a, b]);
+        }
+    }
+    let edges = [0x00, 0x7f, 0x80, 0x8f, 0x90, 0x9f, 0xa0, 0xbf, 0xc0, 0xff];
+    for a in 0xe0..=0xff {
+        for b in edges {
+            for c in edges {
+                same(&[a, b, c]);
+                for d in edges {
+                    same(&[a, b, c, d]);
+                }
+            }
+        }
+    }
+}
+
+#[test]
+fn a_catalog_is_data() {
+    fn shared<T: Send + Sync + Clone>(t: &T) -> T {
+        t.clone()
+    }
+    let catalog = shared(&Catalog::parse(&F).unwrap());
+    assert_eq!(catalog.gettext("a"), "b");
+    assert_eq!(size_of::<Catalog>(), 7752);
+    assert_eq!(
+        format!("{catalog:?}"),
+        "Catalog { bytes: 48, entries: 1, .. }"
+    );
+    let read = std::thread::scope(|s| s.spawn(|| catalog.gettext("a")).join().unwrap());
+    assert_eq!(read, "b");
+}
