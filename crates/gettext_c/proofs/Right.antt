@@ -8,10 +8,10 @@ use mathlib.Core.Bool.{Bool, true, false}
 use mathlib.Core.List.{List, [], _∷_}
 use native.Mathlib.Omega.{arith}
 use lib.ListN.{length, getD, take, drop}
-use Rattle.text.specs.Utf8.{utf8}
+use Rattle.utf8.specs.Utf8.{utf8}
 use Rattle.text.specs.Cut.{every}
 use Rattle.text.proofs.Tests.{and-left, and-right}
-use Rattle.text.proofs.Texts.{empty-right}
+use Rattle.utf8.proofs.Texts.{empty-right}
 use Rattle.rules.specs.Pool.{Pool}
 use Rattle.rules.specs.Value.{truth}
 use Rattle.messages.specs.declared.Error.the-variants as error

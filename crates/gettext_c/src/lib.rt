@@ -10,7 +10,7 @@ use rules::Rated;
 use rules::Resolved;
 ghost use mathlib.Core.Path.{_≡_};
 ghost use mathlib.Core.Bool.{true};
-ghost use Rattle.text.specs.Utf8.{utf8};
+ghost use Rattle.utf8.specs.Utf8.{utf8};
 ghost use Rattle.rules.specs.Pool.{pool};
 ghost use Rattle.rules.specs.Value.{truth};
 ghost use Rattle.rules.specs.Answer.{resolvedOf, ratedOf, fitOf};
@@ -431,5 +431,5 @@ pub extern "C" fn gettext_rattle_evaluate<'a>(
 pub extern "C" fn gettext_rattle_is_utf8(text: &[u8]) -> u32
     ensures { λ r. ⌜ r ≡ truth (utf8 (now (text .entry))) ⌝ }
 {
-    flag_of(text::is_utf8(text))
+    flag_of(utf8::is_utf8(text))
 }
