@@ -1,0 +1,80 @@
+//! The catalogs that are measured: real ones, and generated ones of a given size.
+use std::fs;
+use std::path::Path;
+
+pub struct Message {
+    pub id: String,
+    pub translation: String,
+}
+
+fn walk(folder: &Path, files: &mut Vec<Vec<u8>>) {
+    let Ok(entries) = fs::read_dir(folder) else {
+        return;
+    };
+    let mut paths: Vec<_> = entries.flatten().map(|e| e.path()).filter(|p| !p.is_symlink()).collect();
+    paths.sort();
+    for path in paths {
+        if path.is_dir() {
+            walk(&path, files);
+        } else if path.extension().is_some_and(|e| e == "mo") {
+            files.extend(fs::read(&path));
+        }
+    }
+}
+
+/// Every .mo file below the folders.
+pub fn real(folders: &[String]) -> Vec<Vec<u8>> {
+    let mut files = Vec::new();
+    folders.iter().for_each(|f| walk(Path::new(f), &mut files));
+    files
+}
+
+fn word(file: &[u8], at: usize) -> Option<usize> {
+    Some(u32::from_le_bytes(file.get(at..at + 4)?.try_into().ok()?) as usize)
+}
+
+/// The ids or the translations of a little-endian file, as far as they lie in it.
+pub fn strings(file: &[u8], ids: bool) -> Vec<&[u8]> {
+    let (Some(0x950412de), Some(count), Some(table)) = (word(file, 0), word(file, 8), word(file, if ids { 12 } else { 16 })) else {
+        return Vec::new();
+    };
+    (0..count)
+        .map_while(|i| Some((word(file, table + 8 * i)?, word(file, table + 8 * i + 4)?)))
+        .filter_map(|(len, start)| file.get(start..start + len))
+        .collect()
+}
+
+fn put(file: &mut [u8], at: usize, value: usize) {
+    file[at..at + 4].copy_from_slice(&(value as u32).to_le_bytes());
+}
+
+/// A catalog of n messages and a header with the rule; every message has three forms.
+pub fn generated(n: usize, rule: &str) -> (Vec<Message>, Vec<u8>) {
+    let mut messages: Vec<Message> = (0..n)
+        .map(|i| Message {
+            id: format!("The file {i} of the archive could not be opened"),
+            translation: format!("Файл {i} архива не открыт\0Файла {i} архива не открыты\0Файлов {i} архива не открыты"),
+        })
+        .collect();
+    messages.sort_by(|a, b| a.id.cmp(&b.id));
+    let header = format!("Content-Type: text/plain; charset=UTF-8\nPlural-Forms: nplurals=3; plural={rule};\n");
+    let pairs: Vec<(Vec<u8>, &str)> = std::iter::once((Vec::new(), &header[..]))
+        .chain(messages.iter().map(|m| (format!("{}\0many", m.id).into_bytes(), &m.translation[..])))
+        .collect();
+    let count = pairs.len();
+    let mut file = vec![0; 28 + 16 * count];
+    put(&mut file, 0, 0x950412de);
+    put(&mut file, 8, count);
+    put(&mut file, 12, 28);
+    put(&mut file, 16, 28 + 8 * count);
+    for (k, (id, translation)) in pairs.iter().enumerate() {
+        for (table, text) in [(28, &id[..]), (28 + 8 * count, translation.as_bytes())] {
+            let end = file.len();
+            put(&mut file, table + 8 * k, text.len());
+            put(&mut file, table + 8 * k + 4, end);
+            file.extend_from_slice(text);
+            file.push(0);
+        }
+    }
+    (messages, file)
+}

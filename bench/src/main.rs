@@ -1,0 +1,240 @@
+//! The port beside gettext 0.4.0, std and glibc: `bench OUT SCRATCH FOLDER..` prints a table of ratios, and writes OUT/bench.csv and
+//! OUT/bench.svg. Every figure is the best of several repeats in this one process; nothing here is a test.
+use std::collections::BTreeMap;
+use std::fmt::Write as _;
+use std::fs;
+use std::hint::black_box;
+use std::path::Path;
+use std::time::Instant;
+
+mod count;
+mod files;
+mod glibc;
+mod plot;
+
+use files::{generated, real, Message};
+
+#[global_allocator]
+static COUNTING: count::Counting = count::Counting;
+
+/// One line of the table: the port, the other, and how many times as fast (or as small) the port is.
+pub struct Row {
+    pub group: &'static str,
+    pub case: String,
+    pub unit: &'static str,
+    pub ours: f64,
+    pub other: f64,
+    pub beside: &'static str,
+    pub ratio: f64,
+}
+
+/// The call's answer is wanted, as far as the compiler can tell.
+fn keep<T>(answer: T) {
+    black_box(answer);
+}
+
+/// Best seconds of `repeats` runs.
+fn best(repeats: usize, mut run: impl FnMut()) -> f64 {
+    let mut least = f64::MAX;
+    for _ in 0..repeats {
+        let start = Instant::now();
+        run();
+        least = least.min(start.elapsed().as_secs_f64());
+    }
+    least
+}
+
+/// Best nanoseconds of one of `times` calls.
+fn nanoseconds(times: usize, mut call: impl FnMut(usize)) -> f64 {
+    best(9, || (0..times).for_each(&mut call)) / times as f64 * 1e9
+}
+
+fn faster(group: &'static str, case: String, unit: &'static str, ours: f64, other: f64, beside: &'static str) -> Row {
+    let ratio = if unit == "MB/s" { ours / other } else { other / ours };
+    Row { group, case, unit, ours, other, beside, ratio }
+}
+
+fn load(rows: &mut Vec<Row>, files: &[Vec<u8>]) {
+    let both: Vec<&Vec<u8>> = files
+        .iter()
+        .filter(|f| gettext_rattle::Catalog::parse(f).is_ok() && gettext::Catalog::parse(&f[..]).is_ok())
+        .collect();
+    let bytes: usize = both.iter().map(|f| f.len()).sum();
+    let speed = |seconds: f64| bytes as f64 / seconds / 1e6;
+    let ours = speed(best(7, || both.iter().for_each(|f| keep(gettext_rattle::Catalog::parse(f)))));
+    let other = speed(best(5, || both.iter().for_each(|f| keep(gettext::Catalog::parse(&f[..])))));
+    let case = format!("{} real catalogs, {:.1} MB", both.len(), bytes as f64 / 1e6);
+    rows.push(faster("load", case, "MB/s", ours, other, "crate"));
+}
+
+/// What a loaded catalog holds beyond its file, and how many allocations made it.
+fn memory(rows: &mut Vec<Row>, files: &[Vec<u8>]) {
+    let Some(file) = files.iter().filter(|f| gettext_rattle::Catalog::parse(f).is_ok()).max_by_key(|f| f.len()) else {
+        return;
+    };
+    let before = count::now();
+    let ours = gettext_rattle::Catalog::parse(file);
+    let mine = count::now().since(before);
+    let before = count::now();
+    let other = gettext::Catalog::parse(&file[..]);
+    let theirs = count::now().since(before);
+    black_box((ours.is_ok(), other.is_ok()));
+    let held = mine.bytes + std::mem::size_of::<gettext_rattle::Catalog>();
+    let size = format!("a catalog of {} bytes", file.len());
+    rows.push(faster("memory", format!("bytes held, {size}"), "bytes", held as f64, theirs.bytes as f64, "crate"));
+    rows.push(faster("memory", format!("allocations, {size}"), "count", mine.calls as f64, theirs.calls as f64, "crate"));
+}
+
+/// Keys in an order that no cache foresees.
+fn shuffled(n: usize) -> Vec<usize> {
+    let mut order: Vec<usize> = (0..n).collect();
+    let mut state = 0x9e37_79b9_7f4a_7c15_u64;
+    for i in (1..n).rev() {
+        state = state.wrapping_mul(6364136223846793005).wrapping_add(1442695040888963407);
+        order.swap(i, (state >> 33) as usize % (i + 1));
+    }
+    order
+}
+
+struct Lookups {
+    hit: (f64, f64),
+    miss: (f64, f64),
+    plural_hit: (f64, f64),
+    plural_miss: (f64, f64),
+}
+
+fn lookups(messages: &[Message], file: &[u8]) -> Lookups {
+    let ours = gettext_rattle::Catalog::parse(file).expect("a generated catalog loads");
+    let other = gettext::Catalog::parse(file).expect("a generated catalog loads in the crate");
+    let order = shuffled(messages.len());
+    let absent: Vec<String> = messages.iter().map(|m| format!("{}?", m.id)).collect();
+    let times = (2_000_000 / messages.len()).clamp(300, 20_000);
+    let at = |k: usize| order[k % order.len()];
+    for k in 0..messages.len() {
+        let m = &messages[k];
+        assert_eq!(ours.gettext(&m.id), other.gettext(&m.id));
+        for n in [0, 1, 2, 5, 21] {
+            assert_eq!(ours.ngettext(&m.id, "many", n), other.ngettext(&m.id, "many", n));
+        }
+        assert_eq!(ours.gettext(&absent[k]), absent[k]);
+    }
+    Lookups {
+        hit: (
+            nanoseconds(times, |k| keep(ours.gettext(black_box(&messages[at(k)].id)))),
+            nanoseconds(times, |k| keep(other.gettext(black_box(&messages[at(k)].id)))),
+        ),
+        miss: (
+            nanoseconds(times, |k| keep(ours.gettext(black_box(&absent[at(k)])))),
+            nanoseconds(times, |k| keep(other.gettext(black_box(&absent[at(k)])))),
+        ),
+        plural_hit: (
+            nanoseconds(times, |k| keep(ours.ngettext(black_box(&messages[at(k)].id), "many", k as u64))),
+            nanoseconds(times, |k| keep(other.ngettext(black_box(&messages[at(k)].id), "many", k as u64))),
+        ),
+        plural_miss: (
+            nanoseconds(times, |k| keep(ours.ngettext(black_box(&absent[at(k)]), "many", k as u64))),
+            nanoseconds(times, |k| keep(other.ngettext(black_box(&absent[at(k)]), "many", k as u64))),
+        ),
+    }
+}
+
+const RUSSIAN: &str = "n%10==1 && n%100!=11 ? 0 : n%10>=2 && n%10<=4 && (n%100<10 || n%100>=20) ? 1 : 2";
+const ARABIC: &str = "n==0 ? 0 : n==1 ? 1 : n==2 ? 2 : n%100>=3 && n%100<=10 ? 3 : n%100>=11 ? 4 : 5";
+
+fn lookup(rows: &mut Vec<Row>, scratch: &Path) {
+    for n in [100, 1000, 9000] {
+        let (messages, file) = generated(n, RUSSIAN);
+        let l = lookups(&messages, &file);
+        rows.push(faster("lookup", format!("hit, {n} entries"), "ns", l.hit.0, l.hit.1, "crate"));
+        rows.push(faster("lookup", format!("miss, {n} entries"), "ns", l.miss.0, l.miss.1, "crate"));
+        rows.push(faster("lookup", format!("plural hit, {n} entries"), "ns", l.plural_hit.0, l.plural_hit.1, "crate"));
+        rows.push(faster("lookup", format!("plural miss, {n} entries"), "ns", l.plural_miss.0, l.plural_miss.1, "crate"));
+        if let Some(domain) = glibc::Domain::open(scratch, n, &file, &messages[0]) {
+            let order = shuffled(n);
+            let ids: Vec<_> = messages.iter().map(|m| glibc::text(&m.id)).collect();
+            let theirs = nanoseconds(20_000, |k| keep(domain.gettext(&ids[order[k % n]])));
+            rows.push(faster("lookup", format!("hit, {n} entries"), "ns", l.hit.0, theirs, "glibc"));
+        }
+    }
+}
+
+/// The largest number of entries at which a scan is not slower than the crate's hash map.
+fn crossover() -> BTreeMap<&'static str, usize> {
+    let mut most = BTreeMap::from([("hit", 0), ("miss", 0), ("plural hit", 0), ("plural miss", 0)]);
+    for n in [1, 2, 3, 4, 6, 8, 12, 16, 24, 32, 48, 64, 96] {
+        let (messages, file) = generated(n, RUSSIAN);
+        let l = lookups(&messages, &file);
+        for (name, (ours, other)) in [("hit", l.hit), ("miss", l.miss), ("plural hit", l.plural_hit), ("plural miss", l.plural_miss)] {
+            if ours <= other {
+                most.insert(name, n);
+            }
+        }
+    }
+    most
+}
+
+/// A plural lookup in a catalog of one message: almost all of it is the rule.
+fn evaluation(rows: &mut Vec<Row>) {
+    for (name, rule) in [("Russian", RUSSIAN), ("Arabic", ARABIC)] {
+        // the Shipped reading is the crate's; a catalog that is meant to be read right asks for Standard
+        let (messages, file) = generated(1, rule);
+        let ours = gettext_rattle::Catalog::parse(&file).expect("it loads");
+        let standard = gettext_rattle::ParseOptions::new().reading(gettext_rattle::Reading::Standard).parse(&file).expect("it loads");
+        let other = gettext::Catalog::parse(&file[..]).expect("it loads");
+        let id = &messages[0].id;
+        let a = nanoseconds(100_000, |k| keep(ours.ngettext(black_box(id), "many", k as u64)));
+        let s = nanoseconds(100_000, |k| keep(standard.ngettext(black_box(id), "many", k as u64)));
+        let b = nanoseconds(100_000, |k| keep(other.ngettext(black_box(id), "many", k as u64)));
+        rows.push(faster("plural rule", format!("{name}, Shipped"), "ns", a, b, "crate"));
+        rows.push(faster("plural rule", format!("{name}, Standard"), "ns", s, b, "crate"));
+    }
+}
+
+fn utf8(rows: &mut Vec<Row>, files: &[Vec<u8>]) {
+    for (name, ids) in [("translations", false), ("ids", true)] {
+        let texts: Vec<&[u8]> = files.iter().flat_map(|f| files::strings(f, ids)).take(400_000).collect();
+        let bytes: usize = texts.iter().map(|t| t.len()).sum();
+        let speed = |seconds: f64| bytes as f64 / seconds / 1e6;
+        let ours = speed(best(7, || texts.iter().for_each(|t| keep(gettext_rattle::is_utf8(t)))));
+        let std = speed(best(7, || texts.iter().for_each(|t| keep(std::str::from_utf8(t).is_ok()))));
+        rows.push(faster("UTF-8 test", format!("{} {name}, one by one", texts.len()), "MB/s", ours, std, "std"));
+    }
+}
+
+fn table(rows: &[Row], most: &BTreeMap<&str, usize>) -> String {
+    let mut out = String::from("| what | unit | ours | beside | theirs | times as good |\n|---|---|---:|---|---:|---:|\n");
+    for r in rows {
+        let ratio = if r.ratio.is_finite() { format!("{:.2}", r.ratio) } else { "none against some".into() };
+        let _ = writeln!(out, "| {}: {} | {} | {:.0} | {} | {:.0} | {ratio} |", r.group, r.case, r.unit, r.ours, r.beside, r.other);
+    }
+    let list: Vec<String> = most.iter().map(|(name, n)| format!("{name} {n}")).collect();
+    let _ = writeln!(out, "\nA scan is not slower than the crate's hash map up to this many entries: {}.", list.join(", "));
+    out
+}
+
+fn csv(rows: &[Row]) -> String {
+    let mut out = String::from("group,case,unit,ours,beside,theirs,ratio\n");
+    for r in rows {
+        let _ = writeln!(out, "{},\"{}\",{},{:.3},{},{:.3},{:.4}", r.group, r.case, r.unit, r.ours, r.beside, r.other, r.ratio);
+    }
+    out
+}
+
+fn main() {
+    let words: Vec<String> = std::env::args().skip(1).collect();
+    let [out, scratch, folders @ ..] = &words[..] else {
+        eprintln!("usage: bench OUT SCRATCH FOLDER..");
+        std::process::exit(2);
+    };
+    let files = real(folders);
+    let mut rows = Vec::new();
+    load(&mut rows, &files);
+    memory(&mut rows, &files);
+    utf8(&mut rows, &files);
+    evaluation(&mut rows);
+    lookup(&mut rows, Path::new(scratch));
+    let most = crossover();
+    print!("{}", table(&rows, &most));
+    fs::write(Path::new(out).join("bench.csv"), csv(&rows)).expect("the CSV is written");
+    fs::write(Path::new(out).join("bench.svg"), plot::svg(&rows)).expect("the plot is written");
+}

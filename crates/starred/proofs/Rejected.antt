@@ -1,0 +1,71 @@
+-- The programs that document 01, "How closely the promises bind", asks to see rejected. Each theorem is named after one, and says what the
+-- contract asks on a file or rule of the table of any result that it allows; the program named answers otherwise. Assumes nothing.
+use mathlib.Core.Path.{_≡_}
+use mathlib.Core.Bool.{false}
+use mathlib.Core.List.{[]}
+use Rattle.text.specs.Trim.{front, trim, trimStart, trimEnd, all}
+use Rattle.text.specs.Bytes.{bytes, same, begins}
+use Rattle.text.specs.Cut.{cut, every}
+use Rattle.utf8.specs.Utf8.{utf8, rest}
+use Rattle.rules.specs.Tree.{var, int, bin, rem}
+use Rattle.rules.specs.Value.{evalTree, binary}
+use Rattle.rules.specs.Range.{rateTree, binRange, opRange}
+use Rattle.rules.specs.Pool.{pool, opAt, opOf, treeAt, treeOf, operandsTo, operands, allBelow, used, member, distinct, shaped, isTree}
+use Rattle.rules.specs.Store.{opCode, size, store, zeros, blank}
+use Rattle.rules.specs.Answer.{resolvedOf, ratedOf}
+use Rattle.rules.specs.declared.Resolved as resolving
+use Rattle.rules.specs.declared.Resolved.the-variants.{Form}
+use Rattle.rules.specs.declared.Rated as rating
+use Rattle.rules.specs.declared.Rated.the-variants.{Range}
+use Rattle.shipped.specs.Scan.{indexFrom, indexOf, endFrom, digitsFrom, integer}
+use Rattle.shipped.specs.Shipped.{shipped, parseIn, parens, level, choose, readNot}
+use Rattle.plurals.specs.declared.Reading.the-variants.{Shipped}
+use Rattle.plurals.specs.declared.Plural.{Plural}
+use Rattle.plurals.specs.Plurals.{made, tested, parsed, defaultTree, Parses}
+use Rattle.header.specs.Header.{named, plural}
+use Rattle.layout.specs.Mo.{word, string, contextEnd, idStart, idEnd, context, id, entry, pieceAt, segment}
+use Rattle.messages.specs.Messages.{orderOf, headOf, originalOf, readAt}
+use Rattle.container.specs.Catalog.{header, entryStep, entriesFrom, load}
+use Rattle.container.specs.Promise.{Loads}
+use Rattle.container.specs.declared.Loaded as loading
+use Rattle.container.specs.declared.Outcome.the-variants.{Loaded}
+use Rattle.lookup.specs.Lookup as lookup
+use Rattle.lookup.specs.Lookup.{lastIn, lastWith, singular}
+use Rattle.lookup.specs.declared.Answer.{Answer}
+use Rattle.lookup.specs.declared.Answer.the-variants.{Segment}
+use Rattle.starred.proofs.Table.{fileF, fileG, plain, tablesOf}
+
+-- a load that refuses everything; a record with an invented entry count
+module _ (r : loading.Loaded) (promise : Loads (load plain [] fileF) r) where
+  pub refuses-everything : r .outcome ≡ Loaded
+  unfolding load entriesFrom entryStep header readAt originalOf headOf orderOf word string contextEnd idStart idEnd context id utf8 rest front begins every cut
+  refuses-everything = promise .outcome-is
+
+  pub invented-count : r .record .count ≡ 1
+  unfolding load entriesFrom entryStep header readAt originalOf headOf orderOf word string contextEnd idStart idEnd context id utf8 rest front begins every cut
+  invented-count = promise .keeps .count-is
+
+-- a lookup that hands back the id every time; one that returns form 0 always
+pub id-every-time : (r : Answer) → r ≡ singular fileF (tablesOf 48 false 1 28 36) (bytes "a") → r ≡ Segment 0 0 46 1
+unfolding singular lastWith lastIn entry word string idStart idEnd front same cut pieceAt segment
+id-every-time r promise = promise
+
+pub form-0-always : (r : Answer) → r ≡ lookup.plural fileG (tablesOf 50 false 1 28 36) (store defaultTree 0 blank) 3 2 (bytes "a") 2 → r ≡ Segment 0 1 48 1
+unfolding lookup.plural lastWith lastIn entry word string idStart idEnd front same cut pieceAt segment
+    resolvedOf evalTree binary opAt opOf opCode treeAt treeOf operandsTo operands allBelow used member distinct shaped isTree store size zeros blank
+form-0-always r promise = promise
+
+-- a reading that calls every rule n
+pub every-rule-n : (r : Plural) → Parses (parsed Shipped (bytes "+7")) r → pool (r .rule .codes) (r .rule .places) (r .rule .values) ≡ store (int 7) 0 blank
+unfolding parsed tested made size all trim trimStart trimEnd shipped parseIn parens level choose readNot indexOf indexFrom endFrom integer digitsFrom
+every-rule-n r promise = promise .nodes
+
+-- a rating that never rates: n%10
+pub never-rates : (r : rating.Rated) → r ≡ ratedOf (store (bin rem var (int 10)) 0 blank) 3 2 → r ≡ Range 0 9
+unfolding ratedOf rateTree binRange opRange opAt opOf opCode treeAt treeOf operandsTo operands allBelow used member distinct shaped isTree store size zeros blank
+never-rates r promise = promise
+
+-- an evaluator stuck at 0
+pub stuck-at-0 : (r : resolving.Resolved) → r ≡ resolvedOf (store (int 7) 0 blank) 1 0 5 → r ≡ Form 7
+unfolding resolvedOf evalTree opAt opOf opCode treeAt treeOf operandsTo operands allBelow used member distinct shaped isTree store size zeros blank
+stuck-at-0 r promise = promise
