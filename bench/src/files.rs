@@ -48,11 +48,29 @@ fn put(file: &mut [u8], at: usize, value: usize) {
     file[at..at + 4].copy_from_slice(&(value as u32).to_le_bytes());
 }
 
+const WORDS: [&str; 32] = [
+    "the", "file", "cannot", "be", "opened", "for", "reading", "option", "requires", "an", "argument", "invalid", "number", "of",
+    "lines", "in", "directory", "%s", "permission", "denied", "while", "writing", "output", "archive", "is", "too", "short", "warning",
+    "unknown", "user", "name", "ignored",
+];
+
+/// Some words, as many and as long as ids of real catalogs have, and a number that no other id has.
+fn sentence(i: usize) -> String {
+    let mut state = (i as u64 + 1).wrapping_mul(0x9e37_79b9_7f4a_7c15);
+    let mut next = |below: usize| {
+        state = state.wrapping_mul(6364136223846793005).wrapping_add(1442695040888963407);
+        (state >> 33) as usize % below
+    };
+    let count = 2 + next(9);
+    let words: Vec<&str> = (0..count).map(|_| WORDS[next(WORDS.len())]).collect();
+    format!("{} {i}", words.join(" "))
+}
+
 /// A catalog of n messages and a header with the rule; every message has three forms.
 pub fn generated(n: usize, rule: &str) -> (Vec<Message>, Vec<u8>) {
     let mut messages: Vec<Message> = (0..n)
         .map(|i| Message {
-            id: format!("The file {i} of the archive could not be opened"),
+            id: sentence(i),
             translation: format!("Файл {i} архива не открыт\0Файла {i} архива не открыты\0Файлов {i} архива не открыты"),
         })
         .collect();

@@ -21,6 +21,7 @@ use Rattle.container.specs.declared.Loaded as below-loaded
 use Rattle.container.specs.Catalog as catalog
 use Rattle.container.specs.Promise as promise
 use Rattle.lookup.specs.Lookup as lookup
+use Rattle.lookup.specs.declared.Why.the-variants.{ZeroModulus, BadRecord}
 use Rattle.lookup.specs.declared.Tables as tables
 use Rattle.lookup.specs.declared.Answer as answer
 use Rattle.lookup.specs.declared.Answer.the-variants.{Segment, Id, PluralId}
@@ -99,14 +100,14 @@ answerOf (PluralId why) = fallback (lookup.numberOf why) 2
 abbrev pub ratingOf : Rated → Rating
 ratingOf (rated.Range l h) = record { number = 0; rated = 1; lowest = l; highest = h }
 ratingOf rated.Unrated = record { number = 0; rated = 0; lowest = 0; highest = 0 }
-ratingOf rated.NoTree = record { number = 11; rated = 0; lowest = 0; highest = 0 }
+ratingOf rated.NoTree = record { number = lookup.numberOf BadRecord; rated = 0; lowest = 0; highest = 0 }
 
 abbrev pub fitsOf : Fit → Fits
 fitsOf fit.Yes = record { number = 0; fits = 1 }
 fitsOf fit.No = record { number = 0; fits = 0 }
-fitsOf fit.NoTree = record { number = 11; fits = 0 }
+fitsOf fit.NoTree = record { number = lookup.numberOf BadRecord; fits = 0 }
 
 abbrev pub valueOf : Resolved → Form
 valueOf (resolved.Form x) = record { number = 0; form = x }
-valueOf resolved.ZeroModulus = record { number = 10; form = 0 }
-valueOf resolved.NoTree = record { number = 11; form = 0 }
+valueOf resolved.ZeroModulus = record { number = lookup.numberOf ZeroModulus; form = 0 }
+valueOf resolved.NoTree = record { number = lookup.numberOf BadRecord; form = 0 }

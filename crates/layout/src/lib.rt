@@ -15,7 +15,8 @@ pub enum Stretch {
     Outside,
 }
 
-// An original, with the byte after it: where its context ends (0 without one), where its id starts, and the NUL that ends the id.
+// An original, with the byte after it: where its context ends (0 without one), where its id starts, and the NUL that ends the id, or
+// without one the length.
 pub struct Parts {
     pub context: usize,
     pub id: usize,

@@ -15,7 +15,7 @@ pub record IsPart (s : RefT (List ℕ)) (start len : ℕ) (r : RefT (List ℕ)) 
   pub block : r .ptr .0 ≡ s .ptr .0
   pub place : r .ptr .1 ≡ s .ptr .1 + start
 
--- the caller's own text
+-- that part, if it lies in the text, else the caller's own; a lookup names no other (`singular-found`, `plural-found`)
 abbrev pub partOr : Bool → RefT (List ℕ) → ℕ → ℕ → RefT (List ℕ) → RefT (List ℕ) → Type 0
 partOr true file start len id r = IsPart file start len r
 partOr false file start len id r = r ≡ id

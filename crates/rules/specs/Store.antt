@@ -48,7 +48,7 @@ unfoldable pub zeros : ℕ → List ℕ
 zeros zero = []
 zeros (suc n) = 0 ∷ zeros n
 
--- the pool of no nodes, as the empty record has it, and a tree alone in a pool
+-- the arrays in which nothing is stored yet; proofs/Stored.antt shows that a tree stored in a pool is held there as that very tree (`holds`)
 unfoldable pub blank : Pool
 unfolding zeros
 blank = pool (zeros 512) (zeros 1536) (zeros 512)

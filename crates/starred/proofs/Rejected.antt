@@ -1,8 +1,12 @@
--- The programs that document 01, "How closely the promises bind", asks to see rejected. Each theorem is named after one, and says what the
+-- The programs that document 01, "How closely the promises bind", asks to see rejected. Each theorem is named after the one it speaks against, and says what the
 -- contract asks on a file or rule of the table of any result that it allows; the program named answers otherwise. Assumes nothing.
-use mathlib.Core.Path.{_≡_}
-use mathlib.Core.Bool.{false}
-use mathlib.Core.List.{[]}
+use Prim.Native.Nat.{ℕ}
+use mathlib.Core.Path.{_≡_, ap, subst}
+use mathlib.Core.Bool.{Bool, false}
+use mathlib.Core.List.{List, []}
+use lib.ListN.{length}
+use lib.Dec.{leb}
+use denote.Ref.{RefT, now}
 use Rattle.text.specs.Trim.{front, trim, trimStart, trimEnd, all}
 use Rattle.text.specs.Bytes.{bytes, same, begins}
 use Rattle.text.specs.Cut.{cut, every}
@@ -31,41 +35,48 @@ use Rattle.container.specs.declared.Loaded as loading
 use Rattle.container.specs.declared.Outcome.the-variants.{Loaded}
 use Rattle.lookup.specs.Lookup as lookup
 use Rattle.lookup.specs.Lookup.{lastIn, lastWith, singular}
+use Rattle.lookup.specs.Text.{IsPart, partOr, IsText}
 use Rattle.lookup.specs.declared.Answer.{Answer}
 use Rattle.lookup.specs.declared.Answer.the-variants.{Segment}
 use Rattle.starred.proofs.Table.{fileF, fileG, plain, tablesOf}
 
 -- a load that refuses everything; a record with an invented entry count
 module _ (r : loading.Loaded) (promise : Loads (load plain [] fileF) r) where
-  pub refuses-everything : r .outcome ≡ Loaded
+  pub against-refuses-everything : r .outcome ≡ Loaded
   unfolding load entriesFrom entryStep header readAt originalOf headOf orderOf word string contextEnd idStart idEnd context id utf8 rest front begins every cut
-  refuses-everything = promise .outcome-is
+  against-refuses-everything = promise .outcome-is
 
-  pub invented-count : r .record .count ≡ 1
+  pub against-invented-count : r .record .count ≡ 1
   unfolding load entriesFrom entryStep header readAt originalOf headOf orderOf word string contextEnd idStart idEnd context id utf8 rest front begins every cut
-  invented-count = promise .keeps .count-is
+  against-invented-count = promise .keeps .count-is
 
 -- a lookup that hands back the id every time; one that returns form 0 always
-pub id-every-time : (r : Answer) → r ≡ singular fileF (tablesOf 48 false 1 28 36) (bytes "a") → r ≡ Segment 0 0 46 1
+pub against-id-every-time : (r : Answer) → r ≡ singular fileF (tablesOf 48 false 1 28 36) (bytes "a") → r ≡ Segment 0 0 46 1
 unfolding singular lastWith lastIn entry word string idStart idEnd front same cut pieceAt segment
-id-every-time r promise = promise
+against-id-every-time r promise = promise
 
-pub form-0-always : (r : Answer) → r ≡ lookup.plural fileG (tablesOf 50 false 1 28 36) (store defaultTree 0 blank) 3 2 (bytes "a") 2 → r ≡ Segment 0 1 48 1
+-- and by the text that is returned: that part of the file
+pub against-id-every-time-in-text : (file id r : RefT (List ℕ)) → now file ≡ fileF → IsText file id id (singular fileF (tablesOf 48 false 1 28 36) (bytes "a")) r → IsPart file 46 1 r
+unfolding singular lastWith lastIn entry word string idStart idEnd front same cut pieceAt segment
+against-id-every-time-in-text file id r e promise =
+    subst (λ (b : Bool). partOr b file 46 1 id r) (ap (λ (s : List ℕ). leb 47 (length s)) e) (promise .says)
+
+pub against-form-0-always : (r : Answer) → r ≡ lookup.plural fileG (tablesOf 50 false 1 28 36) (store defaultTree 0 blank) 3 2 (bytes "a") 2 → r ≡ Segment 0 1 48 1
 unfolding lookup.plural lastWith lastIn entry word string idStart idEnd front same cut pieceAt segment
     resolvedOf evalTree binary opAt opOf opCode treeAt treeOf operandsTo operands allBelow used member distinct shaped isTree store size zeros blank
-form-0-always r promise = promise
+against-form-0-always r promise = promise
 
 -- a reading that calls every rule n
-pub every-rule-n : (r : Plural) → Parses (parsed Shipped (bytes "+7")) r → pool (r .rule .codes) (r .rule .places) (r .rule .values) ≡ store (int 7) 0 blank
+pub against-every-rule-n : (r : Plural) → Parses (parsed Shipped (bytes "+7")) r → pool (r .rule .codes) (r .rule .places) (r .rule .values) ≡ store (int 7) 0 blank
 unfolding parsed tested made size all trim trimStart trimEnd shipped parseIn parens level choose readNot indexOf indexFrom endFrom integer digitsFrom
-every-rule-n r promise = promise .nodes
+against-every-rule-n r promise = promise .nodes
 
 -- a rating that never rates: n%10
-pub never-rates : (r : rating.Rated) → r ≡ ratedOf (store (bin rem var (int 10)) 0 blank) 3 2 → r ≡ Range 0 9
+pub against-never-rates : (r : rating.Rated) → r ≡ ratedOf (store (bin rem var (int 10)) 0 blank) 3 2 → r ≡ Range 0 9
 unfolding ratedOf rateTree binRange opRange opAt opOf opCode treeAt treeOf operandsTo operands allBelow used member distinct shaped isTree store size zeros blank
-never-rates r promise = promise
+against-never-rates r promise = promise
 
 -- an evaluator stuck at 0
-pub stuck-at-0 : (r : resolving.Resolved) → r ≡ resolvedOf (store (int 7) 0 blank) 1 0 5 → r ≡ Form 7
+pub against-stuck-at-0 : (r : resolving.Resolved) → r ≡ resolvedOf (store (int 7) 0 blank) 1 0 5 → r ≡ Form 7
 unfolding resolvedOf evalTree opAt opOf opCode treeAt treeOf operandsTo operands allBelow used member distinct shaped isTree store size zeros blank
-stuck-at-0 r promise = promise
+against-stuck-at-0 r promise = promise

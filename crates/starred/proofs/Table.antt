@@ -1,7 +1,7 @@
 -- The starred cases of document 01, "Files and rules to try", as one list of data under one statement, which is computed. It speaks of
 -- the definitions that the contracts cite: `load` of container, `singular` and `plural` of lookup, `parsed` of plurals, `evalTree`,
 -- `rateTree` and `fitsRange` of rules. The two rows of G, on which a lookup that always returns form 0 fails, are added. Assumes nothing.
-use Prim.Native.Nat.{ℕ}
+use Prim.Native.Nat.{ℕ, _-_}
 use mathlib.Core.Path.{_≡_, refl}
 use mathlib.Core.Bool.{Bool, true, false}
 use mathlib.Core.List.{List, [], _∷_, _++_, map}
@@ -10,7 +10,7 @@ use Rattle.text.specs.Trim.{front, trim, trimStart, trimEnd, all}
 use Rattle.text.specs.Bytes.{bytes, same, begins, first}
 use Rattle.text.specs.Cut.{cut, every}
 use Rattle.utf8.specs.Utf8.{utf8, rest}
-use Rattle.rules.specs.Tree.{Tree}
+use Rattle.rules.specs.Tree.{Tree, var, int}
 use Rattle.rules.specs.Value.{evalTree, binary, negated, chosen, truthV}
 use Rattle.rules.specs.Range.{rateTree, binRange, opRange, condRange, notRange, fitsRange}
 use Rattle.rules.specs.Pool.{opAt, opOf, treeAt, treeOf, operandsTo, operands, allBelow, used, member, distinct, shaped, isTree}
@@ -57,16 +57,19 @@ pub data Case : Type 0 where
   loading : List ℕ → Case
   looking : List ℕ → List ℕ → Case
   counting : List ℕ → List ℕ → ℕ → Case
-  -- the value of a rule at a count; its range; whether it fits a number
+  -- the tree of a rule; its value at a count; its range; whether it fits a number
+  reading : Reading → List ℕ → Case
   valuing : Reading → List ℕ → ℕ → Case
   ranging : List ℕ → Case
   fitting : List ℕ → ℕ → Case
 
 pub data Said : Type 0 where
   number : ℕ → Said
-  -- so many bytes of the file from a place on; the caller's own text
+  -- so many bytes of the file from a place on; the caller's own id or plural id, with the number
   part : ℕ → ℕ → Said
-  own : Said
+  own : ℕ → Said
+  own-plural : ℕ → Said
+  tree : Tree → Said
   form : ℕ → Said
   range : ℕ → ℕ → Said
   unrated : Said
@@ -79,8 +82,8 @@ loaded (refused e) = number (numberOf e)
 
 abbrev texted : answers.Answer → Said
 texted (Segment i f start len) = part start len
-texted (Id why) = own
-texted (PluralId why) = own
+texted (Id why) = own (lookup.numberOf why)
+texted (PluralId why) = own-plural (lookup.numberOf why)
 
 abbrev pub tablesOf : ℕ → Bool → ℕ → ℕ → ℕ → Tables
 tablesOf n b k x y = record { length = n; big = b; count = k; originals = x; translations = y }
@@ -90,7 +93,7 @@ looked s key (accepted n b k x y t) = texted (singular s (tablesOf n b k x y) ke
 looked s key (refused e) = number (numberOf e)
 
 abbrev counted : List ℕ → List ℕ → ℕ → Answer → Said
-counted s key m (accepted n b k x y t) = texted (lookup.plural s (tablesOf n b k x y) (store t 0 blank) 3 2 key m)
+counted s key m (accepted n b k x y t) = texted (lookup.plural s (tablesOf n b k x y) (store t 0 blank) (size t) (size t - 1) key m)
 counted s key m (refused e) = number (numberOf e)
 
 abbrev valued : Value → Said
@@ -116,7 +119,8 @@ abbrev pub computed : Case → Said
 computed (loading s) = loaded (load plain [] s)
 computed (looking s key) = looked s key (load plain [] s)
 computed (counting s key m) = counted s key m (load plain [] s)
-computed (valuing reading s n) = read (parsed reading s) (λ t. valued (evalTree t n))
+computed (reading r s) = read (parsed r s) tree
+computed (valuing r s n) = read (parsed r s) (λ t. valued (evalTree t n))
 computed (ranging s) = read (parsed Standard s) (λ t. ranged (rateTree t))
 computed (fitting s k) = read (parsed Standard s) (λ t. answered (fitsRange (rateTree t) k))
 
@@ -124,7 +128,7 @@ computed (fitting s k) = read (parsed Standard s) (λ t. answered (fitsRange (ra
 abbrev pub starred : List (Case × Said)
 starred =
     (looking fileF (bytes "a"), part 46 1)
-    ∷ (looking fileF (bytes "c"), own)
+    ∷ (looking fileF (bytes "c"), own 0)
     ∷ (loading (take 47 fileF), number 1)
     ∷ (loading (take 27 fileF), number 1)
     ∷ (counting fileG (bytes "a") 1, part 46 1)
@@ -135,11 +139,11 @@ starred =
     ∷ (valuing Standard (bytes "n>1 == 0") 2, form 0)
     ∷ (valuing Shipped (bytes "n==1 && 1 ? 2 : 3") 5, form 0)
     ∷ (valuing Standard (bytes "n==1 && 1 ? 2 : 3") 5, form 3)
-    ∷ (valuing Shipped (bytes "(n1") 5, form 5)
-    ∷ (valuing Standard (bytes "(n1") 5, number 6)
-    ∷ (valuing Shipped (bytes "+7") 5, form 7)
-    ∷ (valuing Standard (bytes "+7") 5, number 6)
-    ∷ (valuing Shipped (bytes "0 ? n?1:2 : 3") 5, number 6)
+    ∷ (reading Shipped (bytes "(n1"), tree var)
+    ∷ (reading Standard (bytes "(n1"), number 6)
+    ∷ (reading Shipped (bytes "+7"), tree (int 7))
+    ∷ (reading Standard (bytes "+7"), number 6)
+    ∷ (reading Shipped (bytes "0 ? n?1:2 : 3"), number 6)
     ∷ (valuing Standard (bytes "0 ? n?1:2 : 3") 5, form 3)
     ∷ (fitting (bytes "n%10") 10, yes)
     ∷ (fitting (bytes "n%10") 9, no)

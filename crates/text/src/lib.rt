@@ -49,7 +49,7 @@ fn blocks_within(s: &[u8], from: usize, lo: u8, hi: u8) -> usize
     i
 }
 
-// The first place from a place on of a byte that is not within the bounds, or the text's length.
+// The first place from a place on of a byte that is not within the bounds, or the text's length; past the end that place itself.
 pub fn span(s: &[u8], from: usize, lo: u8, hi: u8) -> usize
     ensures { λ r. ⌜ r ≡ from + front (within (lo, hi)) (drop from (now (s .entry))) ⌝ }
 {
@@ -154,7 +154,7 @@ pub fn trim<'a>(s: &'a [u8], set: Set) -> &'a [u8]
     &s[start..end]
 }
 
-// The first place of a byte from a place on, or the text's length.
+// The first place of a byte from a place on, or the text's length; past the end that place itself.
 pub fn find_byte_from(s: &[u8], at: usize, x: u8) -> usize
     ensures { λ r. ⌜ r ≡ at + place x (drop at (now (s .entry))) ⌝ }
 {

@@ -10,7 +10,7 @@ pub data Scalar (c : ℕ) : Type 0 where
   low : c < 0xD800 → Scalar c
   high : 0xE000 ≤ c → c ≤ 0x10FFFF → Scalar c
 
--- the six bits of c from bit 6, 12 .. on (c over 64, 4096 ..), as a byte 10xxxxxx
+-- the lowest six bits of c as a byte 10xxxxxx
 abbrev pub six : ℕ → ℕ
 six c = 0x80 + c % 64
 
