@@ -4,6 +4,7 @@ mod compare;
 mod make;
 mod rattle;
 mod rng;
+mod sample;
 mod shrink;
 
 use compare::{hex, Depth, Oracle, Stats, CASE, QUIET};
@@ -293,6 +294,10 @@ fn main() {
         Some("real") => {
             let folders: Vec<String> = words[1..].iter().filter(|word| Path::new(word).is_dir()).cloned().collect();
             real(threads, &folders)
+        }
+        Some("sample") => {
+            use std::io::Write;
+            std::io::stdout().write_all(&sample::write()).is_ok()
         }
         _ => {
             eprintln!("{USAGE}");
