@@ -251,11 +251,11 @@ pub fn hex(bytes: &[u8]) -> String {
     bytes.iter().map(|b| format!("{b:02x}")).collect()
 }
 
-// How lookups are asked: a few keys and counts, or all of them.
+// How lookups are asked: a few keys and counts, or so many keys spread over the file.
 #[derive(Clone, Copy, PartialEq)]
 pub enum Depth {
     Some,
-    All,
+    Keys(usize),
 }
 
 impl Oracle {
@@ -344,14 +344,14 @@ impl Oracle {
         depth: Depth,
     ) -> Result<(), String> {
         let entries = count(file, big);
-        if depth == Depth::All {
-            for i in 0..entries {
+        if let Depth::Keys(most) = depth {
+            for i in (0..entries).step_by((entries / most).max(1)) {
                 if let Some(key) = key(file, big, i) {
                     let counts: &[u64] = if i < 200 || i % 64 == 0 { &COUNTS } else { &[1, 5] };
                     self.ask(rng, file, texts, ours, theirs, key, counts)?;
                 }
             }
-            for i in 0..entries.min(50) {
+            for i in 0..entries.min(50).min(most) {
                 if let Some(key) = key(file, big, i) {
                     let near = near(rng, key);
                     self.ask(rng, file, texts, ours, theirs, &near, &[0, 1, 2])?;

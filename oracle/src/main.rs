@@ -17,8 +17,8 @@ use std::time::Instant;
 
 const USAGE: &str = "usage: oracle run --seed S --cases N [--from I] [--threads T]
        oracle rules --exhaustive K [--threads T]
-       oracle utf8 [--up-to K]
-       oracle real DIR..
+       oracle utf8 [--up-to K] [--threads T]
+       oracle real DIR.. [--keys K] [--threads T]
        oracle sample";
 
 extern "C" {
@@ -164,7 +164,7 @@ fn catalogs(folder: &Path, found: &mut Vec<PathBuf>) {
     }
 }
 
-fn real(threads: u64, folders: &[String]) -> bool {
+fn real(threads: u64, folders: &[String], keys: usize) -> bool {
     let start = Instant::now();
     let mut paths = Vec::new();
     for folder in folders {
@@ -176,7 +176,7 @@ fn real(threads: u64, folders: &[String]) -> bool {
         let Ok(file) = std::fs::read(path) else { return Ok(()) };
         bytes.fetch_add(file.len() as u64, Ordering::Relaxed);
         let mut rng = Rng::new(1, i);
-        oracle.file(&mut rng, &file, &file, None, false, Depth::All).map_err(|e| format!("{}: {e}", path.display()))
+        oracle.file(&mut rng, &file, &file, None, false, Depth::Keys(keys)).map_err(|e| format!("{}: {e}", path.display()))
     });
     let part = format!("real catalogs ({} files, {} bytes)", paths.len(), bytes.into_inner());
     summary(&part, &stats, differ, start)
@@ -293,7 +293,7 @@ fn main() {
         Some("utf8") => utf8(threads, value(&words, "--up-to").unwrap_or(3) as u32),
         Some("real") => {
             let folders: Vec<String> = words[1..].iter().filter(|word| Path::new(word).is_dir()).cloned().collect();
-            real(threads, &folders)
+            real(threads, &folders, value(&words, "--keys").map_or(usize::MAX, |keys| keys as usize))
         }
         Some("sample") => {
             use std::io::Write;
