@@ -3,7 +3,7 @@ use crate::compare::{count, hex, Depth, Oracle, Stats, NOT_GIVEN};
 use crate::make::{self, Entry};
 use crate::rng::Rng;
 
-// Takes parts away from a text while the test still fails on it.
+// Takes parts away from a text while the test still fails on it: runs of bytes, and where it is short, pairs (as of brackets).
 fn shorter(text: &mut Vec<u8>, mut differs: impl FnMut(&[u8]) -> bool) {
     let mut step = (text.len() / 2).max(1);
     loop {
@@ -19,16 +19,37 @@ fn shorter(text: &mut Vec<u8>, mut differs: impl FnMut(&[u8]) -> bool) {
                 at += step;
             }
         }
-        if step == 1 && !less {
+        if step == 1 && !less && !shorter_by_two(text, &mut differs) {
             return;
         }
         step = (step / 2).max(1);
     }
 }
 
+fn shorter_by_two(text: &mut Vec<u8>, differs: &mut impl FnMut(&[u8]) -> bool) -> bool {
+    if text.len() > 48 {
+        return false;
+    }
+    for j in 1..text.len() {
+        for i in 0..j {
+            let mut next = text.clone();
+            next.remove(j);
+            next.remove(i);
+            if differs(&next) {
+                *text = next;
+                return true;
+            }
+        }
+    }
+    false
+}
+
 pub fn rule(oracle: &mut Oracle, rng: &mut Rng, mut rule: Vec<u8>, counts: &[u64], first: String) -> String {
+    // what is tried here is no case of the run
+    let kept = std::mem::take(&mut oracle.stats);
     shorter(&mut rule, |text| oracle.rule(&mut rng.clone(), text, counts).is_err());
     let last = oracle.rule(&mut rng.clone(), &rule, counts).err().unwrap_or(first);
+    oracle.stats = kept;
     format!("rule {} {:?}: {last}", hex(&rule), String::from_utf8_lossy(&rule))
 }
 
@@ -77,6 +98,7 @@ fn entries(file: &[u8]) -> Option<(bool, Vec<Entry>)> {
 }
 
 pub fn file(oracle: &mut Oracle, bytes: Vec<u8>, first: String, differs: impl Fn(&mut Oracle, &[u8]) -> Option<String>) -> String {
+    let kept = std::mem::take(&mut oracle.stats);
     let mut best = bytes;
     if let Some((big, mut list)) = entries(&best) {
         if differs(oracle, &make::plain(big, &list)).is_some() {
@@ -91,13 +113,16 @@ pub fn file(oracle: &mut Oracle, bytes: Vec<u8>, first: String, differs: impl Fn
                 }
             }
             for i in 0..list.len() {
-                let mut id = list[i].id.clone();
-                shorter(&mut id, |text| {
-                    let mut other = list.clone();
-                    other[i].id = text.to_vec();
-                    differs(oracle, &make::plain(big, &other)).is_some()
-                });
-                list[i].id = id;
+                // a key that stands twice stays one
+                let old = list[i].id.clone();
+                let with = |list: &[Entry], text: &[u8]| {
+                    let mut other = list.to_vec();
+                    other.iter_mut().filter(|entry| entry.id == old).for_each(|entry| entry.id = text.to_vec());
+                    other
+                };
+                let mut id = old.clone();
+                shorter(&mut id, |text| differs(oracle, &make::plain(big, &with(&list, text))).is_some());
+                list = with(&list, &id);
                 let mut segment = list[i].segments[0].clone();
                 shorter(&mut segment, |text| {
                     let mut other = list.clone();
@@ -111,5 +136,6 @@ pub fn file(oracle: &mut Oracle, bytes: Vec<u8>, first: String, differs: impl Fn
     }
     shorter(&mut best, |text| differs(oracle, text).is_some());
     let last = differs(oracle, &best).unwrap_or(first);
+    oracle.stats = kept;
     format!("{last}\n  file {}", hex(&best))
 }

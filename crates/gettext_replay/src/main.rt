@@ -1,6 +1,6 @@
 // Replays answers that were written down: of the Rust crate, of document 01 where the crate has none, and of the Standard reading. The
 // list on standard input is made by `oracle/sample`, and oracle/src/sample.rs says how it is laid out. Writes how many cases agree, and
-// the place of each that does not.
+// the place in the list of each that does not, counted from 0.
 use container::Options;
 use container::Outcome;
 use container::Record;
@@ -15,6 +15,7 @@ ghost use Prim.Native.Nat.{_<_};
 
 // Cases so far, and how many agree, by origin.
 struct Tally {
+    total: u64,
     by_crate: u64,
     by_crate_agree: u64,
     by_document: u64,
@@ -337,9 +338,9 @@ fn case_agrees(told: &[u8]) -> bool {
     false
 }
 
-fn show_case(told: &[u8]) {
-    io::write_all(1, b"differs: ");
-    io::write_all(1, told);
+fn show_case(k: u64) {
+    io::write_all(1, b"differs: case ");
+    io::print_decimal(1, k);
     io::write_all(1, b"\n");
 }
 
@@ -347,6 +348,7 @@ fn show_case(told: &[u8]) {
 fn counted(t: Tally, origin: usize, yes: bool) -> Tally {
     if origin == 99 {
         return Tally {
+            total: more(t.total),
             by_crate: more(t.by_crate),
             by_crate_agree: more_if(t.by_crate_agree, yes),
             by_document: t.by_document,
@@ -357,6 +359,7 @@ fn counted(t: Tally, origin: usize, yes: bool) -> Tally {
     }
     if origin == 100 {
         return Tally {
+            total: more(t.total),
             by_crate: t.by_crate,
             by_crate_agree: t.by_crate_agree,
             by_document: more(t.by_document),
@@ -366,6 +369,7 @@ fn counted(t: Tally, origin: usize, yes: bool) -> Tally {
         };
     }
     Tally {
+        total: more(t.total),
         by_crate: t.by_crate,
         by_crate_agree: t.by_crate_agree,
         by_document: t.by_document,
@@ -378,7 +382,7 @@ fn counted(t: Tally, origin: usize, yes: bool) -> Tally {
 fn replay_case(t: Tally, told: &[u8]) -> Tally {
     let yes = case_agrees(told);
     if !yes {
-        show_case(told);
+        show_case(t.total);
     }
     counted(t, byte(told, 1), yes)
 }
@@ -431,6 +435,7 @@ fn replay_all(t: Tally) -> Tally {
 
 fn main() {
     let t = replay_all(Tally {
+        total: 0,
         by_crate: 0,
         by_crate_agree: 0,
         by_document: 0,
