@@ -241,7 +241,7 @@ fn kind(file: &[u8], ours: u32, theirs: &Theirs, forced: bool) -> Option<String>
     if ours == 8 && rule.len() > 512 {
         return Some(format!("rule over 512 bytes: 8, the crate {does}"));
     }
-    if ours == 6 && rule.len() <= 512 && matches!(theirs, Theirs::Panics) {
+    if ours == 6 && rule.len() <= 512 && rule.contains('(') && matches!(theirs, Theirs::Panics) {
         return Some(format!("piece that is a lone bracket: 6, the crate {does}"));
     }
     None
@@ -269,7 +269,15 @@ impl Oracle {
     }
 
     // A file in both, as `twin` in the crate: the same file, but where UTF-8 is forced, one whose header has no label.
-    pub fn file(&mut self, rng: &mut Rng, bytes: &[u8], twin: &[u8], forced: Option<&[u8]>, utf8: bool, depth: Depth) -> Result<(), String> {
+    pub fn file(
+        &mut self,
+        rng: &mut Rng,
+        bytes: &[u8],
+        twin: &[u8],
+        forced: Option<&[u8]>,
+        utf8: bool,
+        depth: Depth,
+    ) -> Result<(), String> {
         self.stats.cases += 1;
         let at_start = rng.one_in(4);
         let file = self.lent.file.put(bytes, at_start);
@@ -281,7 +289,13 @@ impl Oracle {
                 let t = ours.catalog.tables;
                 let big = order(bytes).ok_or("loaded without a magic")?;
                 let fields = [t.length, t.big, t.count, t.originals, t.translations];
-                let wanted = [bytes.len(), big as usize, count(bytes, big), word_in(bytes, big, 12).unwrap(), word_in(bytes, big, 16).unwrap()];
+                let wanted = [
+                    bytes.len(),
+                    big as usize,
+                    count(bytes, big),
+                    word_in(bytes, big, 12).unwrap(),
+                    word_in(bytes, big, 16).unwrap(),
+                ];
                 if fields != wanted {
                     return Err(format!("record {fields:?}, the file {wanted:?}"));
                 }
@@ -333,6 +347,17 @@ impl Oracle {
         Ok(())
     }
 
+    // The empty catalog answers with the caller's own texts.
+    pub fn empty_catalog(&mut self, rng: &mut Rng) -> Result<(), String> {
+        let record = self.empty;
+        let ours = Ours { number: 0, catalog: &record };
+        let file = self.lent.file.put(b"", false);
+        for key in [&b""[..], b"a", b"a\x04b"] {
+            self.ask(rng, file, b"", &ours, &Catalog::empty(), key, &COUNTS)?;
+        }
+        Ok(())
+    }
+
     fn lookups(
         &mut self,
         rng: &mut Rng,
@@ -379,7 +404,16 @@ impl Oracle {
     }
 
     // All four lookups of a key, with its context where it has one.
-    fn ask(&mut self, rng: &mut Rng, file: &[u8], texts: &[u8], ours: &Ours, theirs: &Catalog, key: &[u8], counts: &[u64]) -> Result<(), String> {
+    fn ask(
+        &mut self,
+        rng: &mut Rng,
+        file: &[u8],
+        texts: &[u8],
+        ours: &Ours,
+        theirs: &Catalog,
+        key: &[u8],
+        counts: &[u64],
+    ) -> Result<(), String> {
         // the crate's keys are texts
         if std::str::from_utf8(key).is_err() || key.len() > self.lent.id.room() {
             return Ok(());
@@ -448,7 +482,18 @@ impl Oracle {
     pub fn rule(&mut self, rng: &mut Rng, rule: &[u8], counts: &[u64]) -> Result<(), String> {
         self.stats.cases += 1;
         // a header cannot hold these three: two signs that no rule has, and white space
-        let in_header: Vec<u8> = rule.iter().map(|&b| if b == 0 || b == b';' { b'#' } else if b == 10 { 13 } else { b }).collect();
+        let in_header: Vec<u8> = rule
+            .iter()
+            .map(|&b| {
+                if b == 0 || b == b';' {
+                    b'#'
+                } else if b == 10 {
+                    13
+                } else {
+                    b
+                }
+            })
+            .collect();
         let mut file = std::mem::take(&mut self.buffer);
         rule_file(&in_header, 2, &mut file);
         let result = self.rule_in(rng, rule, &in_header, &mut file, counts);
@@ -485,7 +530,7 @@ impl Oracle {
                 self.explained(format!("rule over 512 bytes: 8, the crate {does}"), file);
                 Ok(())
             }
-            Theirs::Panics if number == 6 && trimmed <= 512 => {
+            Theirs::Panics if number == 6 && trimmed <= 512 && rule.contains(&b'(') => {
                 self.explained(format!("piece that is a lone bracket: 6, the crate {does}"), file);
                 Ok(())
             }

@@ -62,6 +62,9 @@ fn text_of(mut i: u64) -> Vec<u8> {
 // Case i of a seed.
 fn case(oracle: &mut Oracle, seed: u64, i: u64) -> Result<(), String> {
     let mut rng = Rng::new(seed, i);
+    if i == 0 {
+        oracle.empty_catalog(&mut rng)?;
+    }
     match i % 16 {
         0..=3 => {
             let rule = make::rule(&mut rng);
@@ -85,13 +88,17 @@ fn case(oracle: &mut Oracle, seed: u64, i: u64) -> Result<(), String> {
         5 => {
             let big = rng.one_in(2);
             let entries = make::entries(&mut rng);
-            oracle.utf8_forced(&mut rng, big, &entries).map_err(|e| format!("UTF-8 forced: {e}\n  file {}", hex(&make::plain(big, &entries))))
+            oracle
+                .utf8_forced(&mut rng, big, &entries)
+                .map_err(|e| format!("UTF-8 forced: {e}\n  file {}", hex(&make::plain(big, &entries))))
         }
         _ => {
             let bytes = make::file(&mut rng);
             let again = rng.clone();
             oracle.file(&mut rng, &bytes, &bytes, None, false, Depth::Some).map_err(|e| {
-                let differs = |oracle: &mut Oracle, bytes: &[u8]| oracle.file(&mut again.clone(), bytes, bytes, None, false, Depth::Some).err();
+                let differs = |oracle: &mut Oracle, bytes: &[u8]| {
+                    oracle.file(&mut again.clone(), bytes, bytes, None, false, Depth::Some).err()
+                };
                 shrink::file(oracle, bytes.clone(), e, differs)
             })
         }
@@ -184,8 +191,8 @@ fn real(threads: u64, folders: &[String], keys: usize) -> bool {
 
 fn utf8(threads: u64, up_to: u32) -> bool {
     const EDGES: [u8; 28] = [
-        0x00, 0x41, 0x7f, 0x80, 0x8f, 0x90, 0x9f, 0xa0, 0xbf, 0xc0, 0xc1, 0xc2, 0xdf, 0xe0, 0xe1, 0xec, 0xed, 0xee, 0xef, 0xf0, 0xf1, 0xf3, 0xf4,
-        0xf5, 0xf7, 0xf8, 0xfe, 0xff,
+        0x00, 0x41, 0x7f, 0x80, 0x8f, 0x90, 0x9f, 0xa0, 0xbf, 0xc0, 0xc1, 0xc2, 0xdf, 0xe0, 0xe1, 0xec, 0xed, 0xee, 0xef, 0xf0,
+        0xf1, 0xf3, 0xf4, 0xf5, 0xf7, 0xf8, 0xfe, 0xff,
     ];
     let start = Instant::now();
     let mut right = true;
@@ -231,7 +238,12 @@ fn utf8(threads: u64, up_to: u32) -> bool {
         let mut text = Vec::new();
         edges(i, 4, &mut text);
         let mut rng = Rng::new(2, i);
-        let entry = |id: &[u8], segment: &[u8]| make::Entry { context: None, id: id.to_vec(), after: None, segments: vec![segment.to_vec()] };
+        let entry = |id: &[u8], segment: &[u8]| make::Entry {
+            context: None,
+            id: id.to_vec(),
+            after: None,
+            segments: vec![segment.to_vec()],
+        };
         let entries = [entry(b"a", &text), entry(&[b"b", &text[..]].concat(), b"t")];
         for entries in [&entries[..1], &entries[1..], &entries[..]] {
             let file = make::plain(i % 2 == 0, entries);

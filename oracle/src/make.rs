@@ -124,12 +124,38 @@ fn scattered(rng: &mut Rng, big: bool, entries: &[Entry]) -> Vec<u8> {
 }
 
 const WORDS: [&[u8]; 16] = [
-    b"", b"a", b"b", b"c", b"ab", b"abc", b"x", b"\xc3\xa9", b"\xe2\x82\xac", b"\xf0\x9f\x98\x80", b"\xef\xbb\xbfa", b"a\nb", b" ",
-    b"\xef\xbf\xbf", b"\xf4\x8f\xbf\xbf", b"\x7f",
+    b"",
+    b"a",
+    b"b",
+    b"c",
+    b"ab",
+    b"abc",
+    b"x",
+    b"\xc3\xa9",
+    b"\xe2\x82\xac",
+    b"\xf0\x9f\x98\x80",
+    b"\xef\xbb\xbfa",
+    b"a\nb",
+    b" ",
+    b"\xef\xbf\xbf",
+    b"\xf4\x8f\xbf\xbf",
+    b"\x7f",
 ];
 const WRONG: [&[u8]; 14] = [
-    b"\xff", b"\x80", b"\xc0\x80", b"\xc1\xbf", b"\xe0\x9f\xbf", b"\xed\xa0\x80", b"\xed\xbf\xbf", b"\xf0\x8f\xbf\xbf", b"\xf4\x90\x80\x80",
-    b"\xf5\x80\x80\x80", b"\xe2\x82", b"\xf0\x9f\x98", b"\xc3", b"a\xc3\x28",
+    b"\xff",
+    b"\x80",
+    b"\xc0\x80",
+    b"\xc1\xbf",
+    b"\xe0\x9f\xbf",
+    b"\xed\xa0\x80",
+    b"\xed\xbf\xbf",
+    b"\xf0\x8f\xbf\xbf",
+    b"\xf4\x90\x80\x80",
+    b"\xf5\x80\x80\x80",
+    b"\xe2\x82",
+    b"\xf0\x9f\x98",
+    b"\xc3",
+    b"a\xc3\x28",
 ];
 
 fn text(rng: &mut Rng) -> Vec<u8> {
@@ -200,12 +226,63 @@ pub const KNOWN: [&str; 22] = [
     "n==1||n%0",
 ];
 const TOKENS: [&[u8]; 40] = [
-    b"n", b"n", b"n", b"0", b"1", b"2", b"3", b"10", b"100", b"+1", b"01", b"18446744073709551615", b"18446744073709551616", b"&&", b"||",
-    b"?", b":", b"?", b":", b">=", b"<=", b">", b"<", b"==", b"!=", b"%", b"%", b"!", b"(", b")", b"(", b")", b" ", b"\t", b"=", b"&", b"|",
-    b"\x0b", b"\r", b"-",
+    b"n",
+    b"n",
+    b"n",
+    b"0",
+    b"1",
+    b"2",
+    b"3",
+    b"10",
+    b"100",
+    b"+1",
+    b"01",
+    b"18446744073709551615",
+    b"18446744073709551616",
+    b"&&",
+    b"||",
+    b"?",
+    b":",
+    b"?",
+    b":",
+    b">=",
+    b"<=",
+    b">",
+    b"<",
+    b"==",
+    b"!=",
+    b"%",
+    b"%",
+    b"!",
+    b"(",
+    b")",
+    b"(",
+    b")",
+    b" ",
+    b"\t",
+    b"=",
+    b"&",
+    b"|",
+    b"\x0b",
+    b"\r",
+    b"-",
 ];
 const INTEGERS: [&str; 16] = [
-    "0", "1", "2", "3", "4", "5", "10", "11", "100", "007", "63", "64", "4294967296", "9223372036854775808", "18446744073709551615",
+    "0",
+    "1",
+    "2",
+    "3",
+    "4",
+    "5",
+    "10",
+    "11",
+    "100",
+    "007",
+    "63",
+    "64",
+    "4294967296",
+    "9223372036854775808",
+    "18446744073709551615",
     "18446744073709551616",
 ];
 
@@ -230,7 +307,13 @@ pub fn grammar(rng: &mut Rng, rank: usize, depth: usize, out: &mut Vec<u8>) {
         return;
     }
     let kind = rng.below(8);
-    let own = if kind < 2 { 0 } else if kind == 7 { 6 } else { kind - 1 };
+    let own = if kind < 2 {
+        0
+    } else if kind == 7 {
+        6
+    } else {
+        kind - 1
+    };
     let bracket = own < rank || rng.one_in(8);
     if bracket {
         out.push(b'(');
@@ -341,7 +424,13 @@ pub fn rule(rng: &mut Rng) -> Vec<u8> {
         }
         _ => {
             // edges of 64 bits
-            let x = *rng.pick(&["18446744073709551615", "18446744073709551616", "9223372036854775808", "4294967296", "000018446744073709551615"]);
+            let x = *rng.pick(&[
+                "18446744073709551615",
+                "18446744073709551616",
+                "9223372036854775808",
+                "4294967296",
+                "000018446744073709551615",
+            ]);
             let y = *rng.pick(&["n%", "n==", "", "+", "n>", "!", "n<=", "1?0:"]);
             rule.extend(y.as_bytes());
             rule.extend(x.as_bytes());
@@ -369,13 +458,56 @@ fn edit(rng: &mut Rng, bytes: &mut Vec<u8>) {
 }
 
 const LABELS: [&str; 40] = [
-    "UTF-8", "utf-8", "UTF8", "utf8", "Utf-8", "unicode-1-1-utf-8", "UNICODE-1-1-UTF-8", " utf-8 ", "\tutf-8", "utf-8\r", "utf-8\x0c",
-    "\x0butf-8", "utf-8\x0b", "utf-8 charset=latin1", "utf-8charset=utf-8", "charset=utf-8", "", " ", "CHARSET", "utf-7", "utf-16", "utf_8",
-    "\"utf-8\"", "utf-8;", "utf-8; x", "latin1", "ISO-8859-1", "iso-8859-2", "ISO-8859-15", "koi8-r", "windows-1251", "euc-jp", "gbk", "big5",
-    "shift_jis", "us-ascii", "ascii", "l1", "\u{a0}utf-8", "utf-8\u{a0}",
+    "UTF-8",
+    "utf-8",
+    "UTF8",
+    "utf8",
+    "Utf-8",
+    "unicode-1-1-utf-8",
+    "UNICODE-1-1-UTF-8",
+    " utf-8 ",
+    "\tutf-8",
+    "utf-8\r",
+    "utf-8\x0c",
+    "\x0butf-8",
+    "utf-8\x0b",
+    "utf-8 charset=latin1",
+    "utf-8charset=utf-8",
+    "charset=utf-8",
+    "",
+    " ",
+    "CHARSET",
+    "utf-7",
+    "utf-16",
+    "utf_8",
+    "\"utf-8\"",
+    "utf-8;",
+    "utf-8; x",
+    "latin1",
+    "ISO-8859-1",
+    "iso-8859-2",
+    "ISO-8859-15",
+    "koi8-r",
+    "windows-1251",
+    "euc-jp",
+    "gbk",
+    "big5",
+    "shift_jis",
+    "us-ascii",
+    "ascii",
+    "l1",
+    "\u{a0}utf-8",
+    "utf-8\u{a0}",
 ];
 const TYPES: [&str; 8] = [
-    "text/plain; charset=", "charset=", "text/plain; Charset=", "text/plain;charset =", "CHARSET=", "text/plain; ", "charset=charset=", "charset=x charset=",
+    "text/plain; charset=",
+    "charset=",
+    "text/plain; Charset=",
+    "text/plain;charset =",
+    "CHARSET=",
+    "text/plain; ",
+    "charset=charset=",
+    "charset=x charset=",
 ];
 
 // A line of a header, mostly one that something is read from.
@@ -393,7 +525,10 @@ fn line(rng: &mut Rng, out: &mut Vec<u8>) {
         }
         7..=16 => {
             out.extend(rng.pick(&BEFORE).as_bytes());
-            out.extend(rng.pick(&["Plural-Forms", "Plural-Forms", "Plural-Forms", "Plural-Forms", "Plural-Forms\t", "Plural-forms"]).as_bytes());
+            out.extend(
+                rng.pick(&["Plural-Forms", "Plural-Forms", "Plural-Forms", "Plural-Forms", "Plural-Forms\t", "Plural-forms"])
+                    .as_bytes(),
+            );
             out.extend(rng.pick(&[":", ": ", ": ", " :\t"]).as_bytes());
             forms(rng, out);
         }
@@ -405,7 +540,14 @@ fn line(rng: &mut Rng, out: &mut Vec<u8>) {
             out.extend(text(rng));
         }
         _ => out.extend(
-            rng.pick(&["Project-Id-Version: x 1", "Language: de", "MIME-Version: 1.0", "Last-Translator: J\u{f6}rg", "X: \u{3000}y"]).as_bytes(),
+            rng.pick(&[
+                "Project-Id-Version: x 1",
+                "Language: de",
+                "MIME-Version: 1.0",
+                "Last-Translator: J\u{f6}rg",
+                "X: \u{3000}y",
+            ])
+            .as_bytes(),
         ),
     }
     if rng.one_in(12) {
@@ -415,11 +557,26 @@ fn line(rng: &mut Rng, out: &mut Vec<u8>) {
 
 fn forms(rng: &mut Rng, out: &mut Vec<u8>) {
     if rng.one_in(40) {
-        out.extend(rng.pick(&["", "plural", ";", "=", "nplurals=2", "\u{e9}=;plural=n", "plural\u{a0}=n", "x=\u{e9}; plural=n"]).as_bytes());
+        out.extend(
+            rng.pick(&["", "plural", ";", "=", "nplurals=2", "\u{e9}=;plural=n", "plural\u{a0}=n", "x=\u{e9}; plural=n"])
+                .as_bytes(),
+        );
         return;
     }
     if rng.one_in(2) {
-        out.extend(rng.pick(&["nplurals=2; ", "n_plurals=3;", "n_plurals=x; ", ";;", " ; ", "nplurals=2;plural;", "plurals=n; ", "Plural=9;"]).as_bytes());
+        out.extend(
+            rng.pick(&[
+                "nplurals=2; ",
+                "n_plurals=3;",
+                "n_plurals=x; ",
+                ";;",
+                " ; ",
+                "nplurals=2;plural;",
+                "plurals=n; ",
+                "Plural=9;",
+            ])
+            .as_bytes(),
+        );
     }
     for _ in 0..if rng.one_in(8) { 2 } else { 1 } {
         out.extend(rng.pick(&["plural=", "plural=", "plural=", " plural = ", "plural\t=", "plural==", "plural="]).as_bytes());

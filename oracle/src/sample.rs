@@ -206,7 +206,11 @@ impl Sample {
             if ours.number == 0 {
                 body.extend(FORMS_AT.map(|n| {
                     let form = ours.evaluate(n);
-                    if form.number == 10 { 255 } else { form.form.min(64) as u8 }
+                    if form.number == 10 {
+                        255
+                    } else {
+                        form.form.min(64) as u8
+                    }
                 }));
             }
         } else {
@@ -268,7 +272,9 @@ pub fn write() -> Vec<u8> {
     for cut in [0, 3, 4, 27, 28, 35, 36, 43, 44, 45, 46, 47] {
         s.file(&mut rng, &f[..cut], &f[..cut], 0, 1);
     }
-    for (at, byte) in [(47, 0x7a), (45, 0x62), (44, 4), (8, 2), (8, 0), (0, 0), (12, 48), (12, 49), (16, 49), (32, 47), (32, 48), (40, 47)] {
+    for (at, byte) in
+        [(47, 0x7a), (45, 0x62), (44, 4), (8, 2), (8, 0), (0, 0), (12, 48), (12, 49), (16, 49), (32, 47), (32, 48), (40, 47)]
+    {
         let mut other = f.clone();
         other[at] = byte;
         s.file(&mut rng, &other, &other, 0, 1);
@@ -289,7 +295,21 @@ pub fn write() -> Vec<u8> {
     for rule in KNOWN {
         s.rule(rule.as_bytes(), false);
     }
-    for rule in ["n%10%3", "n>1 == 0", "n==1 && 1 ? 2 : 3", "(n1", "0 ? n?1:2 : 3", ":n?n", "n)&&(n", ">>=", "!!=1", "n!!=1", "(n)(1)", "((n)", "(n))"] {
+    for rule in [
+        "n%10%3",
+        "n>1 == 0",
+        "n==1 && 1 ? 2 : 3",
+        "(n1",
+        "0 ? n?1:2 : 3",
+        ":n?n",
+        "n)&&(n",
+        ">>=",
+        "!!=1",
+        "n!!=1",
+        "(n)(1)",
+        "((n)",
+        "(n))",
+    ] {
         s.rule(rule.as_bytes(), false);
     }
     for size in [511, 512, 513] {
@@ -412,5 +432,9 @@ pub fn write() -> Vec<u8> {
 // The number of a forced rule in the Standard reading; a file of no bytes is 1, which comes after it.
 fn self_number(lent: &Lent, file: &[u8], rule: &[u8]) -> usize {
     let ours = lent.load(lent.file.put(file, false), Some(lent.rule.put(rule, false)), true, false).number;
-    if ours == 1 { 0 } else { ours as usize }
+    if ours == 1 {
+        0
+    } else {
+        ours as usize
+    }
 }
