@@ -428,14 +428,15 @@ impl Oracle {
         let answer = ours.gettext(file, id);
         let text = theirs.gettext(id_text);
         self.stats.lookups += 1;
-        if !same(texts, id, plural, None, answer, Some(text)) {
+        if !same(texts, id, plural, None, answer, Some(text)) || !placed(file, key, Some(0), answer) {
             return Err(told("gettext", b"", None, answer, Some(text)));
         }
         for &n in counts {
             let answer = ours.ngettext(file, id, n);
             let text = quietly(|| theirs.ngettext(id_text, plural_text, n));
             self.stats.lookups += 1;
-            if !same(texts, id, plural, Some(n), answer, text) {
+            let form = Some(ours.evaluate(n)).filter(|form| form.number == 0).map(|form| form.form);
+            if !same(texts, id, plural, Some(n), answer, text) || !placed(file, key, form, answer) {
                 return Err(told("ngettext", b"", Some(n), answer, text));
             }
             self.zero(texts, answer);
@@ -450,17 +451,19 @@ impl Oracle {
             let context = self.lent.context.put(context, at_start);
             let id = self.lent.id.put(part, at_start);
             let (context_text, id_text) = unsafe { (std::str::from_utf8_unchecked(context), std::str::from_utf8_unchecked(id)) };
+            let whole = [context, b"\x04", id].concat();
             let answer = ours.pgettext(file, context, id);
             let text = theirs.pgettext(context_text, id_text);
             self.stats.lookups += 1;
-            if !same(texts, id, plural, None, answer, Some(text)) {
+            if !same(texts, id, plural, None, answer, Some(text)) || !placed(file, &whole, Some(0), answer) {
                 return Err(told("pgettext", context, None, answer, Some(text)));
             }
             for &n in counts {
                 let answer = ours.npgettext(file, context, id, n);
                 let text = quietly(|| theirs.npgettext(context_text, id_text, plural_text, n));
                 self.stats.lookups += 1;
-                if !same(texts, id, plural, Some(n), answer, text) {
+                let form = Some(ours.evaluate(n)).filter(|form| form.number == 0).map(|form| form.form);
+                if !same(texts, id, plural, Some(n), answer, text) || !placed(file, &whole, form, answer) {
                     return Err(told("npgettext", context, Some(n), answer, text));
                 }
                 self.zero(texts, answer);
@@ -657,6 +660,24 @@ fn near(rng: &mut Rng, key: &[u8]) -> Vec<u8> {
         _ => near.insert(0, *rng.pick(b"ax\x04")),
     }
     near
+}
+
+// Where ours says that a segment lies: the entry has the key, none after it has, and the form is that segment of its translation.
+fn placed(file: &[u8], key_of_lookup: &[u8], form: Option<u64>, ours: Answer) -> bool {
+    if ours.which != 0 {
+        return true;
+    }
+    let Some(big) = order(file) else { return false };
+    let entries = count(file, big);
+    let later = |i: usize| key(file, big, i) == Some(key_of_lookup);
+    if ours.entry >= entries || !later(ours.entry) || (ours.entry + 1..entries.min(ours.entry + 64)).any(later) {
+        return false;
+    }
+    let Some(table) = word_in(file, big, 16) else { return false };
+    let Some(translation) = string(file, big, table, ours.entry, 0) else { return false };
+    let Some(segment) = translation.split(|&b| b == 0).nth(ours.form as usize) else { return false };
+    let start = segment.as_ptr() as usize - file.as_ptr() as usize;
+    form == Some(ours.form) && (ours.start, ours.len) == (start, segment.len())
 }
 
 // The crate's text is the caller's own where ours says so, by its place in memory, else the segment's bytes.
