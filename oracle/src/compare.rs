@@ -193,6 +193,25 @@ fn header_of(file: &[u8]) -> Option<&str> {
     std::str::from_utf8(translation.split(|&b| b == 0).next()?).ok()
 }
 
+// Nothing else that is read lies in the header's bytes.
+fn alone(file: &[u8], start: usize, end: usize) -> bool {
+    let Some(big) = order(file) else { return false };
+    let n = count(file, big);
+    let tables = [12, 16].map(|at| word_in(file, big, at).unwrap_or(0));
+    let apart = |from: usize, to: usize| to <= start || end <= from;
+    let string_apart = |table: usize, i: usize| match string(file, big, table, i, 1) {
+        Some(string) => {
+            let from = string.as_ptr() as usize - file.as_ptr() as usize;
+            apart(from, from + string.len())
+        }
+        None => true,
+    };
+    n <= 64
+        && apart(0, 28)
+        && tables.iter().all(|&table| apart(table, table + 8 * n))
+        && (0..n).all(|i| string_apart(tables[0], i) && (i == 0 || string_apart(tables[1], i)))
+}
+
 fn field<'a>(header: &'a str, name: &str) -> Option<&'a str> {
     let fields = header.split('\n').filter_map(|line| line.split_once(':'));
     fields.filter(|(before, _)| before.trim_matches(six) == name).map(|(_, value)| value.trim_matches(six)).last()
@@ -304,7 +323,7 @@ impl Oracle {
                     return match header_of(twin).and_then(outside) {
                         Some(why) => {
                             self.explained(format!("{why}: 0, the crate loads, lookups differ"), twin);
-                            Ok(())
+                            self.in_ascii(rng, file, twin, &ours, forced.is_some(), depth)
                         }
                         None => Err(e),
                     };
@@ -323,8 +342,32 @@ impl Oracle {
                 if ours.number != 0 {
                     self.refused(rng, file, &ours)?;
                 }
+                if header_of(twin).and_then(outside).is_some() {
+                    self.in_ascii(rng, file, twin, &ours, forced.is_some(), depth)?;
+                }
                 Ok(())
             }
+        }
+    }
+
+    // A header outside the domain is held to what the crate says of it with a sign that nothing reads for each byte outside ASCII: by
+    // document 01 such a byte is neither white space nor a part of anything that is read.
+    fn in_ascii(&mut self, rng: &mut Rng, file: &[u8], twin: &[u8], ours: &Ours, forced: bool, depth: Depth) -> Result<(), String> {
+        let Some(header) = header_of(twin) else { return Ok(()) };
+        let start = header.as_ptr() as usize - twin.as_ptr() as usize;
+        if !alone(twin, start, start + header.len()) {
+            return Ok(());
+        }
+        let mut plain = twin.to_vec();
+        plain[start..start + header.len()].iter_mut().filter(|b| !b.is_ascii()).for_each(|b| *b = b'~');
+        match theirs(&plain, forced) {
+            Theirs::Loads(catalog) if ours.number == 0 => {
+                let big = order(file).unwrap_or(false);
+                self.lookups(rng, file, &plain, ours, &catalog, big, depth).map_err(|e| format!("with ~ outside ASCII: {e}"))
+            }
+            Theirs::Refuses(number) if ours.number == number => Ok(()),
+            other if kind(&plain, ours.number, &other, forced).is_some() => Ok(()),
+            other => Err(format!("load: {}, the crate with ~ outside ASCII {}", ours.number, other.says())),
         }
     }
 
