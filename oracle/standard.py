@@ -3,7 +3,7 @@
 catalogs that msgfmt builds, and a small reader of C's grammar below.
 
     oracle/standard.py [--rules N] [--gnu N] [--seed S]     made rules, and catalogs
-    oracle/standard.py --sample FILE                        the Standard lines of the replay list
+    oracle/standard.py --sample FILE                        the lines of the replay list that the crate did not answer
 
 Differences of a kind that is explained are counted by kind; any other is printed, and the exit status is 1.
 """
@@ -482,55 +482,90 @@ def number_of(rule):
         return 6, None
 
 
+def fits(file):
+    """Whether every cell and string lies in the file."""
+    if len(file) < 28:
+        return False
+    order = "<" if file[:4] == EMPTY[:4] else ">"
+    count, originals, translations = struct.unpack_from(order + "3I", file, 8)
+    cells = [table + 8 * i for table in (originals, translations) for i in range(count)]
+    return all(cell + 8 <= len(file) and sum(struct.unpack_from(order + "2I", file, cell)) + 1 <= len(file) for cell in cells)
+
+
+# the one rule among the forced ones that the crate's reading takes otherwise than C: it cuts at && first
+SHIPPED = {"n&&1?2:0": ("&&", "n", ("?", 1, 2, 0))}
+
+
+def catalog_right(case, origin):
+    """A catalog of the list that the crate did not answer, by this file's own readers; and how many lookups it has."""
+    flags, number = case[2:4]
+    length, size = struct.unpack_from("<2H", case, 4)
+    forced, file, rest = case[8 : 8 + length].decode(), case[8 + length : 8 + length + size], case[8 + length + size :]
+    if origin == "d" and not flags & 1 and number == 6:
+        # where the crate panics
+        return not rest, 0
+    wanted, tree = number_of(forced) if flags & 1 else (0, None)
+    if origin == "d":
+        tree = SHIPPED.get(forced, tree)
+    if wanted == 0 and not fits(file):
+        wanted = 1
+    found = catalog(file) if wanted == 0 else {}
+    if wanted == 0 and not flags & 1:
+        wanted, tree = number_of(header_rule(found))
+    right, answers = number == wanted, 0
+    while rest:
+        (size,) = struct.unpack_from("<H", rest)
+        call, number, which, n, c, i, t = struct.unpack_from("<BBBQBBB", rest, 2)
+        context, key, text = rest[16 : 16 + c], rest[16 + c : 16 + c + i], rest[16 + c + i : 16 + c + i + t]
+        rest = rest[2 + size :]
+        answers += 1
+        stale, call = call >= 8, call % 8
+        fallback = (1, key) if call < 2 or n == 1 else (2, b"plural")
+        # the record's length is the file's, or 0 where it was refused
+        lent, known = 0 if stale else len(file), 0 if wanted else len(file)
+        form = value(tree, n) if call >= 2 and wanted == 0 else 0
+        segments = found.get(context + b"\4" + key if call in (1, 3) else key, [])
+        if lent != known:
+            expected = (11,) + fallback
+        elif form is None:
+            expected = (10,) + fallback
+        elif form < len(segments):
+            expected = (0, 0, segments[form])
+        else:
+            expected = (0,) + fallback
+        right &= (number, which, text) == expected
+    return right, answers
+
+
 def sample(path):
     with open(path, "rb") as data:
         data = data.read()
-    rules = catalogs = answers = differ = by_c2py = 0
+    rules = catalogs = answers = differ = by_c2py = documents = 0
     for case in cases(data):
-        kind, origin, flags, number = case[:4]
-        if origin != ord("s"):
-            continue
-        (length,) = struct.unpack_from("<H", case, 4)
-        if kind == 2:
+        kind, origin = case[0], chr(case[1])
+        right = True
+        if kind == 2 and origin == "s":
             rules += 1
+            (length,) = struct.unpack_from("<H", case, 4)
             rule, told = case[6 : 6 + length].decode(), case[6 + length :]
             wanted, tree = number_of(rule)
             forms = [value(tree, n) for n in FORMS_AT] if wanted == 0 else []
-            right = number == wanted and list(told) == [255 if form is None else min(form, 64) for form in forms]
+            right = case[3] == wanted and list(told) == [255 if form is None else min(form, 64) for form in forms]
             f, _ = python(rule)
             if wanted == 0 and f is not None and [at(f, n) for n in FORMS_AT] == forms:
                 by_c2py += 1
             answers += len(forms)
-        else:
-            catalogs += 1
-            (size,) = struct.unpack_from("<H", case, 6)
-            forced, file, rest = case[8 : 8 + length], case[8 + length : 8 + length + size], case[8 + length + size :]
-            found = catalog(file)
-            wanted, tree = number_of(forced.decode() if flags & 1 else header_rule(found))
-            right = number == wanted
-            while rest:
-                (size,) = struct.unpack_from("<H", rest)
-                call, number, which, n, c, i, t = struct.unpack_from("<BBBQBBB", rest, 2)
-                context, key, text = rest[16 : 16 + c], rest[16 + c : 16 + c + i], rest[16 + c + i : 16 + c + i + t]
-                rest = rest[2 + size :]
-                answers += 1
-                form = value(tree, n) if call >= 2 and wanted == 0 else 0
-                segments = found.get(context + b"\4" + key if call in (1, 3) else key, [])
-                fallback = (1, key) if call < 2 or n == 1 else (2, b"plural")
-                if wanted != 0:
-                    right &= (number, which, text) == (11,) + fallback
-                elif form is None:
-                    right &= (number, which, text) == (10,) + fallback
-                elif form < len(segments):
-                    right &= (number, which, text) == (0, 0, segments[form])
-                else:
-                    right &= (number, which, text) == (0,) + fallback
+        elif kind == 1 and origin in "sd":
+            right, more = catalog_right(case, origin)
+            answers += more
+            catalogs += origin == "s"
+            documents += origin == "d"
         if not right:
             differ += 1
             print("DIFFERS %s" % case.hex())
     print(
-        "standard, replay list: %d rules (%d of them the same in c2py as they stand), %d catalogs, %d answers; %d differ"
-        % (rules, by_c2py, catalogs, answers, differ)
+        "standard, replay list: %d rules (%d of them the same in c2py as they stand), %d catalogs, %d more of document 01, %d answers; %d differ"
+        % (rules, by_c2py, catalogs, documents, answers, differ)
     )
     return differ == 0
 
