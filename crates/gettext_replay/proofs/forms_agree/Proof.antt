@@ -1,0 +1,59 @@
+-- Safe, and ends: the measure is the counts that are left. Assumes nothing.
+use borrow.Author.Needs.{needs}
+use Prim.Native.Nat.{_-_}
+use Rattle.gettext_replay.proofs.forms_agree.Statement.{statement}
+use Rattle.gettext_replay.proofs.forms_agree.Tie as tie
+use Rattle.gettext_replay.proofs.forms_agree.Reads as reads
+use Rattle.gettext_replay.proofs.forms_agree.Lts as lts
+use Rattle.gettext_replay.proofs.byte.Reads as byte-reads
+use Rattle.gettext_replay.proofs.count_at.Reads as count-at-reads
+use Rattle.gettext_replay.proofs.form_of.Reads as form-of-reads
+
+abbrev Inv-loop : tie.InvT-loop
+Inv-loop told rule i₀ i = Unit {0}
+
+abbrev μ-loop : tie.MeasureT-loop
+μ-loop told rule i₀ i = 16 - i
+
+loop-holds : tie.Need-loop-holds Inv-loop μ-loop
+loop-holds c = search needs
+
+count-at-requires : tie.Need-count-at-requires Inv-loop μ-loop
+count-at-requires c κs = search needs
+
+form-of-requires : tie.Need-form-of-requires Inv-loop μ-loop
+form-of-requires c κs = search needs
+
+byte-requires : tie.Need-byte-requires Inv-loop μ-loop
+byte-requires c κs = search needs
+
+returns : tie.Need-returns Inv-loop μ-loop
+returns c = search needs
+
+add-i : tie.Need-add-i Inv-loop μ-loop
+add-i c = search needs
+
+loop-less : tie.Need-loop-less Inv-loop μ-loop
+loop-less c = search needs
+
+loop-again : tie.Need-loop-again Inv-loop μ-loop
+loop-again c = search needs
+
+returns-2 : tie.Need-returns-2 Inv-loop μ-loop
+returns-2 c = search needs
+
+pub forms-agree-spec : {M : Type 1} → statement M
+forms-agree-spec =
+    tie.close
+    (tie.spec
+    Inv-loop
+    μ-loop
+    loop-holds
+    count-at-requires
+    form-of-requires
+    byte-requires
+    returns
+    add-i
+    loop-less
+    loop-again
+    returns-2)

@@ -1,0 +1,379 @@
+// The port's static library, and memory to lend it: everything that is lent lies in pages that can only be read, between two pages
+// that cannot be touched, so that a write, and a read of one byte past the end (or before the start), ends the run.
+use std::ffi::{c_char, c_int, c_long, c_uint, c_void};
+
+#[repr(C)]
+#[derive(Clone, Copy, PartialEq, Debug)]
+pub struct Tables {
+    pub length: usize,
+    pub count: usize,
+    pub originals: usize,
+    pub translations: usize,
+    pub big: usize,
+}
+
+#[repr(C)]
+#[derive(Clone, Copy)]
+pub struct Record {
+    pub tables: Tables,
+    pub nodes: usize,
+    pub root: usize,
+    pub values: [u64; 512],
+    pub places: [u16; 1536],
+    pub codes: [u8; 512],
+}
+
+#[repr(C)]
+#[derive(Clone, Copy)]
+pub struct Loaded {
+    pub number: u32,
+    pub catalog: Record,
+}
+
+#[repr(C)]
+#[derive(Clone, Copy, PartialEq, Debug)]
+pub struct Answer {
+    pub number: u32,
+    pub which: u32,
+    pub entry: usize,
+    pub form: u64,
+    pub start: usize,
+    pub len: usize,
+}
+
+#[repr(C)]
+#[derive(Clone, Copy, PartialEq, Debug)]
+pub struct Rating {
+    pub number: u32,
+    pub rated: u32,
+    pub lowest: u64,
+    pub highest: u64,
+}
+
+#[repr(C)]
+#[derive(Clone, Copy, PartialEq, Debug)]
+pub struct Form {
+    pub number: u32,
+    pub form: u64,
+}
+
+extern "C" {
+    fn gettext_rattle_empty() -> Record;
+    fn gettext_rattle_load(
+        file: *const u8,
+        file_len: usize,
+        rule: *const u8,
+        rule_len: usize,
+        forced: u32,
+        standard: u32,
+        utf8: u32,
+    ) -> Loaded;
+    fn gettext_rattle_gettext(file: *const u8, file_len: usize, tables: Tables, id: *const u8, id_len: usize) -> Answer;
+    fn gettext_rattle_pgettext(
+        file: *const u8,
+        file_len: usize,
+        tables: Tables,
+        context: *const u8,
+        context_len: usize,
+        id: *const u8,
+        id_len: usize,
+    ) -> Answer;
+    fn gettext_rattle_ngettext(
+        file: *const u8,
+        file_len: usize,
+        tables: Tables,
+        codes: *const [u8; 512],
+        places: *const [u16; 1536],
+        values: *const [u64; 512],
+        nodes: usize,
+        root: usize,
+        id: *const u8,
+        id_len: usize,
+        n: u64,
+    ) -> Answer;
+    fn gettext_rattle_npgettext(
+        file: *const u8,
+        file_len: usize,
+        tables: Tables,
+        codes: *const [u8; 512],
+        places: *const [u16; 1536],
+        values: *const [u64; 512],
+        nodes: usize,
+        root: usize,
+        context: *const u8,
+        context_len: usize,
+        id: *const u8,
+        id_len: usize,
+        n: u64,
+    ) -> Answer;
+    fn gettext_rattle_rating(
+        codes: *const [u8; 512],
+        places: *const [u16; 1536],
+        values: *const [u64; 512],
+        nodes: usize,
+        root: usize,
+    ) -> Rating;
+    fn gettext_rattle_evaluate(
+        codes: *const [u8; 512],
+        places: *const [u16; 1536],
+        values: *const [u64; 512],
+        nodes: usize,
+        root: usize,
+        n: u64,
+    ) -> Form;
+    fn gettext_rattle_is_utf8(text: *const u8, text_len: usize) -> u32;
+
+    fn memfd_create(name: *const c_char, flags: c_uint) -> c_int;
+    fn ftruncate(fd: c_int, length: c_long) -> c_int;
+    fn mmap(addr: *mut c_void, length: usize, prot: c_int, flags: c_int, fd: c_int, offset: c_long) -> *mut c_void;
+}
+
+const PROT_NONE: c_int = 0;
+const PROT_READ: c_int = 1;
+const PROT_WRITE: c_int = 2;
+const MAP_SHARED: c_int = 1;
+const MAP_PRIVATE: c_int = 2;
+const MAP_FIXED: c_int = 16;
+const MAP_ANONYMOUS: c_int = 32;
+const PAGE: usize = 4096;
+
+// A stretch of memory under two addresses: the oracle writes at the one, the port reads at the other.
+#[derive(Clone, Copy)]
+pub struct Slot {
+    write: *mut u8,
+    read: *const u8,
+    size: usize,
+}
+
+impl Slot {
+    pub fn room(&self) -> usize {
+        self.size
+    }
+
+    // The bytes, so that they end at the page that cannot be touched, or start after one.
+    pub fn put<'a>(&self, bytes: &[u8], at_start: bool) -> &'a [u8] {
+        assert!(bytes.len() <= self.size);
+        let at = if at_start { 0 } else { self.size - bytes.len() };
+        unsafe {
+            std::ptr::copy_nonoverlapping(bytes.as_ptr(), self.write.add(at), bytes.len());
+            std::slice::from_raw_parts(self.read.add(at), bytes.len())
+        }
+    }
+}
+
+pub struct Lent {
+    pub file: Slot,
+    pub rule: Slot,
+    pub context: Slot,
+    pub id: Slot,
+    pub plural: Slot,
+    record: Slot,
+}
+
+// A loaded catalog whose record is lent.
+#[derive(Clone, Copy)]
+pub struct Ours<'a> {
+    pub number: u32,
+    pub catalog: &'a Record,
+}
+
+impl Lent {
+    pub fn new() -> Lent {
+        let sizes = [1 << 24, 1 << 20, 1 << 20, 1 << 20, 1 << 20, 1 << 14];
+        let whole = sizes.iter().map(|size| size + PAGE).sum::<usize>() + PAGE;
+        unsafe {
+            let fd = memfd_create(b"lent\0".as_ptr() as *const c_char, 0);
+            assert!(fd >= 0 && ftruncate(fd, whole as c_long) == 0);
+            let null = std::ptr::null_mut();
+            let write = mmap(null, whole, PROT_READ | PROT_WRITE, MAP_SHARED, fd, 0) as *mut u8;
+            let read = mmap(null, whole, PROT_NONE, MAP_PRIVATE | MAP_ANONYMOUS, -1, 0) as *mut u8;
+            assert!(write as isize != -1 && read as isize != -1);
+            let mut at = PAGE;
+            let slots = sizes.map(|size| {
+                let page = read.add(at) as *mut c_void;
+                let got = mmap(page, size, PROT_READ, MAP_SHARED | MAP_FIXED, fd, at as c_long);
+                assert!(got == page);
+                let slot = Slot { write: write.add(at), read: read.add(at), size };
+                at += size + PAGE;
+                slot
+            });
+            let [file, rule, context, id, plural, record] = slots;
+            Lent { file, rule, context, id, plural, record }
+        }
+    }
+
+    // The record is written where the oracle may write, and read by lookups where nobody may.
+    pub fn load<'a>(&self, file: &'a [u8], rule: Option<&'a [u8]>, standard: bool, utf8: bool) -> Ours<'a> {
+        let forced = rule.is_some() as u32;
+        let rule = rule.unwrap_or(&file[..0]);
+        let at = self.record.size - std::mem::size_of::<Loaded>();
+        unsafe {
+            let out = self.record.write.add(at) as *mut Loaded;
+            out.write(gettext_rattle_load(
+                file.as_ptr(),
+                file.len(),
+                rule.as_ptr(),
+                rule.len(),
+                forced,
+                standard as u32,
+                utf8 as u32,
+            ));
+            let seen = &*(self.record.read.add(at) as *const Loaded);
+            Ours { number: seen.number, catalog: &seen.catalog }
+        }
+    }
+}
+
+impl Ours<'_> {
+    pub fn gettext(&self, file: &[u8], id: &[u8]) -> Answer {
+        unsafe { gettext_rattle_gettext(file.as_ptr(), file.len(), self.catalog.tables, id.as_ptr(), id.len()) }
+    }
+
+    pub fn pgettext(&self, file: &[u8], context: &[u8], id: &[u8]) -> Answer {
+        unsafe {
+            gettext_rattle_pgettext(
+                file.as_ptr(),
+                file.len(),
+                self.catalog.tables,
+                context.as_ptr(),
+                context.len(),
+                id.as_ptr(),
+                id.len(),
+            )
+        }
+    }
+
+    pub fn ngettext(&self, file: &[u8], id: &[u8], n: u64) -> Answer {
+        let r = self.catalog;
+        unsafe {
+            gettext_rattle_ngettext(
+                file.as_ptr(),
+                file.len(),
+                r.tables,
+                &r.codes,
+                &r.places,
+                &r.values,
+                r.nodes,
+                r.root,
+                id.as_ptr(),
+                id.len(),
+                n,
+            )
+        }
+    }
+
+    pub fn npgettext(&self, file: &[u8], context: &[u8], id: &[u8], n: u64) -> Answer {
+        let r = self.catalog;
+        unsafe {
+            gettext_rattle_npgettext(
+                file.as_ptr(),
+                file.len(),
+                r.tables,
+                &r.codes,
+                &r.places,
+                &r.values,
+                r.nodes,
+                r.root,
+                context.as_ptr(),
+                context.len(),
+                id.as_ptr(),
+                id.len(),
+                n,
+            )
+        }
+    }
+
+    pub fn evaluate(&self, n: u64) -> Form {
+        let r = self.catalog;
+        unsafe { gettext_rattle_evaluate(&r.codes, &r.places, &r.values, r.nodes, r.root, n) }
+    }
+
+    pub fn rating(&self) -> Rating {
+        let r = self.catalog;
+        unsafe { gettext_rattle_rating(&r.codes, &r.places, &r.values, r.nodes, r.root) }
+    }
+}
+
+impl Record {
+    pub fn same(&self, other: &Record) -> bool {
+        self.tables == other.tables && self.same_rule(other)
+    }
+
+    pub fn same_rule(&self, other: &Record) -> bool {
+        self.nodes == other.nodes
+            && self.root == other.root
+            && self.codes == other.codes
+            && self.places == other.places
+            && self.values == other.values
+    }
+
+    fn operand(&self, at: usize, j: usize) -> usize {
+        self.places[3 * at + j] as usize
+    }
+
+    // The tree as the crate's own Debug writes it.
+    pub fn write_tree(&self, at: usize, out: &mut String) {
+        const NAMES: [&str; 9] =
+            ["Equal", "NotEqual", "GreaterOrEqual", "SmallerOrEqual", "Greater", "Smaller", "And", "Or", "Modulo"];
+        match self.codes[at] {
+            0 => out.push('N'),
+            1 => {
+                out.push_str("Integer(");
+                out.push_str(&self.values[at].to_string());
+                out.push(')');
+            }
+            2 => {
+                out.push_str("Not(");
+                self.write_tree(self.operand(at, 0), out);
+                out.push(')');
+            }
+            3 => {
+                out.push_str("Ternary(");
+                for j in 0..3 {
+                    if j > 0 {
+                        out.push_str(", ");
+                    }
+                    self.write_tree(self.operand(at, j), out);
+                }
+                out.push(')');
+            }
+            code => {
+                out.push_str("Op(");
+                out.push_str(NAMES[code as usize - 4]);
+                for j in 0..2 {
+                    out.push_str(", ");
+                    self.write_tree(self.operand(at, j), out);
+                }
+                out.push(')');
+            }
+        }
+    }
+
+    // The tree's value by the crate's `resolve`; none where it takes a remainder by zero.
+    pub fn resolve(&self, at: usize, n: u64) -> Option<u64> {
+        let value = |j| self.resolve(self.operand(at, j), n);
+        Some(match self.codes[at] {
+            0 => n,
+            1 => self.values[at],
+            2 => (value(0)? == 0) as u64,
+            3 => return if value(0)? == 0 { value(2) } else { value(1) },
+            4 => (value(0)? == value(1)?) as u64,
+            5 => (value(0)? != value(1)?) as u64,
+            6 => (value(0)? >= value(1)?) as u64,
+            7 => (value(0)? <= value(1)?) as u64,
+            8 => (value(0)? > value(1)?) as u64,
+            9 => (value(0)? < value(1)?) as u64,
+            10 => (value(0)? != 0 && value(1)? != 0) as u64,
+            11 => (value(0)? != 0 || value(1)? != 0) as u64,
+            _ => return value(0)?.checked_rem(value(1)?),
+        })
+    }
+}
+
+pub fn empty() -> Record {
+    unsafe { gettext_rattle_empty() }
+}
+
+pub fn is_utf8(text: &[u8]) -> bool {
+    unsafe { gettext_rattle_is_utf8(text.as_ptr(), text.len()) != 0 }
+}
