@@ -64,6 +64,12 @@ both op (Is i) (Is j) g s h k = rw (← g .given .0, ← h .given .0, ← g .giv
 both op (Is i) ZeroModulus {x = x} g s h k = failed (rw (← g .given .0) (unsettled op x s)) (stays _ (h .given) k)
 both op ZeroModulus w g s h k = record { given = stays _ (stays w (g .given) h) k }
 
+-- a right operand that is a number decides nothing by itself
+by-left : (op : Op) (v : Value) (y : ℕ) {b c d : Bool} {x r : ℕ} → Gives v b c x → Gives (binary op (Is x) (Is y)) c d r → Gives (binary op v (Is y)) b d r
+unfolding binary
+by-left op (Is i) y g k = rw (← g .given .0, ← g .given .1) k
+by-left op ZeroModulus y g k = record { given = stays _ (g .given) k }
+
 module _ (P : Pool) (p n : ℕ) where
   abbrev ev : ℕ → Value
   ev q = evalTree (treeOf P q) n
@@ -108,10 +114,9 @@ module _ (P : Pool) (p n : ℕ) where
   pub moved : {l : ℕ} {b c d : Bool} {x y : ℕ} → Gives (ev l) b c x → l ≡ p → d ≡ c → y ≡ x → Gives (ev p) b d y
   moved g e f h = rw (← e, f, h) g
 
--- an operator on two leaves
-pub at-flat : (P : Pool) (p n : ℕ) {i j x y : ℕ} {b c : Bool} {r : ℕ} → Binary P p → code P (operand P p 0) < 2 → code P (operand P p 1) < 2
-    → i ≡ operand P p 0 → x ≡ leafOf P i n → j ≡ operand P p 1 → y ≡ leafOf P j n
-    → Gives (binary (opOf (code P p)) (Is x) (Is y)) b c r → Gives (evalTree (treeOf P p) n) b c r
+-- an operator whose right operand is a leaf
+pub at-low : (P : Pool) (p n : ℕ) {j x y : ℕ} {b c d : Bool} {r : ℕ} → Binary P p → code P (operand P p 1) < 2
+    → Gives (evalTree (treeOf P (operand P p 0)) n) b c x → j ≡ operand P p 1 → y ≡ leafOf P j n
+    → Gives (binary (opOf (code P p)) (Is x) (Is y)) c d r → Gives (evalTree (treeOf P p) n) b d r
 unfolding evalTree
-at-flat P p n h l m d e f g k =
-    rw (tree-bin P p h, leaf-is P (operand P p 0) n l, leaf-is P (operand P p 1) n m, ← d, ← e, ← f, ← g) k
+at-low P p n h m g f e k = rw (tree-bin P p h, leaf-is P (operand P p 1) n m, ← f, ← e) (by-left _ _ _ g k)

@@ -4,6 +4,7 @@ use Prim.Native.Nat.{ℕ, _+_, _-_, _<_, _≤_}
 use mathlib.Core.Path.{_≡_}
 use mathlib.Core.Bool.{Bool, true, false, not, _&&_}
 use mathlib.Core.List.{List, _++_}
+use mathlib.Core.Logic.{_⊎_}
 use lib.ListN.{length, getD, set}
 use lib.Dec.{ltb, eqb}
 use Rattle.rules.specs.declared.Value.{Value}
@@ -44,6 +45,12 @@ leafOf P p n = elim (eqb (code P p) 0) [ true ↦ n | false ↦ value P p ]
 pub record Flat (P : Pool) (p : ℕ) : Type 0 where
   pub binary : 3 < code P p
   pub left : code P (operand P p 0) < 2
+  pub right : code P (operand P p 1) < 2
+
+-- a binary operator on a leaf or such a node, and a leaf
+pub record Low (P : Pool) (p : ℕ) : Type 0 where
+  pub binary : 3 < code P p
+  pub left : (code P (operand P p 0) < 2) ⊎ Flat P (operand P p 0)
   pub right : code P (operand P p 1) < 2
 
 -- a place below the node count of a pool whose places all have known codes and operands below them

@@ -11,7 +11,7 @@ ghost use Rattle.rules.specs.Value.{truth, compared, binary, evalTree};
 ghost use Rattle.rules.specs.Range.{opRange, rateTree};
 ghost use Rattle.rules.specs.Pool.{pool, opOf, treeOf, used, isTree};
 ghost use Rattle.rules.specs.Store.{push, store, blank};
-ghost use Rattle.rules.specs.Walk.{settled, cmpOf, Gives, leafOf, Flat, Sound, Marked, Took, Placed, Passes};
+ghost use Rattle.rules.specs.Walk.{settled, cmpOf, Gives, leafOf, Flat, Low, Sound, Marked, Took, Placed, Passes};
 ghost use Rattle.rules.specs.Answer.{resolvedOf, ratedOf, fitOf};
 
 // The codes of nodes.
@@ -300,7 +300,7 @@ fn leaf<'a>(codes: &'a [u8; 512], values: &'a [u64; 512], at: usize, n: u64) -> 
     values[at]
 }
 
-// Whether the node at a place is a binary operator on two leaves.
+// Whether the node at a place is a binary operator on two leaves, as n % 10 is.
 fn is_flat<'a>(codes: &'a [u8; 512], places: &'a [u16; 1536], at: usize) -> bool
     requires { ⌜ Sound (pool (now codes) (now places) []) at ⌝ }
     ensures { λ r. ⌜ (r ≡ true → Flat (pool (now (codes .entry)) (now (places .entry)) []) at) ⌝ }
@@ -333,6 +333,48 @@ fn flat<'a>(
     apply(codes[at], x, y, zero)
 }
 
+// Whether the node at a place is a binary operator on a leaf or such a node and a leaf, as n == 1 and n % 10 == 1 are.
+fn is_low<'a>(codes: &'a [u8; 512], places: &'a [u16; 1536], at: usize) -> bool
+    requires { ⌜ Sound (pool (now codes) (now places) []) at ⌝ }
+    ensures { λ r. ⌜ (r ≡ true → Low (pool (now (codes .entry)) (now (places .entry)) []) at) ⌝ }
+{
+    if codes[at] < node::EQUAL {
+        return false;
+    }
+    if is_leaf(codes, operand(places, at, 1)) {
+        let left = operand(places, at, 0);
+        if is_leaf(codes, left) {
+            return true;
+        }
+        return is_flat(codes, places, left);
+    }
+    false
+}
+
+// The value of such a node. Rules are made of these for the most part, so they are answered without a call of eval.
+fn low<'a>(
+    codes: &'a [u8; 512],
+    places: &'a [u16; 1536],
+    values: &'a [u64; 512],
+    at: usize,
+    n: u64,
+    zero: &mut bool,
+) -> u64
+    requires sound { ⌜ Sound (pool (now codes) (now places) (now values)) at ⌝ }
+    requires low { ⌜ Low (pool (now codes) (now places) []) at ⌝ }
+    ensures { λ r. ⌜ Gives (evalTree (treeOf (pool (now (codes .entry)) (now (places .entry)) (now (values .entry))) at) n)
+        (now (zero .entry)) (now (zero .exit)) r ⌝ }
+{
+    let left = operand(places, at, 0);
+    let x = if is_leaf(codes, left) {
+        leaf(codes, values, left, n)
+    } else {
+        flat(codes, places, values, left, n, zero)
+    };
+    let y = leaf(codes, values, operand(places, at, 1), n);
+    apply(codes[at], x, y, zero)
+}
+
 // The value of the tree at a place. A remainder by zero that is met sets the flag, and the walk goes on: whatever is met is needed, so
 // no number counts then.
 fn eval<'a>(
@@ -352,8 +394,8 @@ fn eval<'a>(
         return leaf(codes, values, at, n);
     }
     let first = operand(places, at, 0);
-    let x = if is_flat(codes, places, first) {
-        flat(codes, places, values, first, n, zero)
+    let x = if is_low(codes, places, first) {
+        low(codes, places, values, first, n, zero)
     } else {
         eval(codes, places, values, first, n, zero)
     };

@@ -20,8 +20,8 @@ use Rattle.rules.proofs.eval.Reads as eval
 use Rattle.rules.proofs.eval.Kinds as eval-kinds
 use Rattle.rules.proofs.+eval.Lts-eval as eval-lts
 use Rattle.rules.proofs.apply.Reads as apply-reads
-use Rattle.rules.proofs.flat.Reads as flat-reads
-use Rattle.rules.proofs.is_flat.Reads as is-flat-reads
+use Rattle.rules.proofs.low.Reads as low-reads
+use Rattle.rules.proofs.is_low.Reads as is-low-reads
 use Rattle.rules.proofs.is_leaf.Reads as is-leaf-reads
 use Rattle.rules.proofs.leaf.Reads as leaf-reads
 use Rattle.rules.proofs.operand.Reads as operand-reads
@@ -40,7 +40,7 @@ abbrev eval-below : ℕ → In 2 eval-kinds.ps
 eval-below t = and 2 eval-kinds.ps (falls 2 eval-kinds.ps _<_ μ-eval t) eval.Pre
 
 abbrev R-eval : ℕ → eval-lts.Claims
-R-eval t = (leaf-reads.Asked, leaf-reads.Learnt, operand-reads.Asked, operand-reads.Learnt, is-flat-reads.Asked, is-flat-reads.Learnt, flat-reads.Asked, flat-reads.Learnt, eval-below t, eval.Post, truth-reads.Asked, truth-reads.Learnt, settles-reads.Asked, settles-reads.Learnt, apply-reads.Asked, apply-reads.Learnt, is-leaf-reads.Asked, is-leaf-reads.Learnt)
+R-eval t = (leaf-reads.Asked, leaf-reads.Learnt, operand-reads.Asked, operand-reads.Learnt, is-low-reads.Asked, is-low-reads.Learnt, low-reads.Asked, low-reads.Learnt, eval-below t, eval.Post, truth-reads.Asked, truth-reads.Learnt, settles-reads.Asked, settles-reads.Learnt, apply-reads.Asked, apply-reads.Learnt, is-leaf-reads.Asked, is-leaf-reads.Learnt)
 
 abbrev St : ℕ → Type 0
 St t = eval-lts.Start (R-eval t) (eval-at t) eval.Post
@@ -48,7 +48,7 @@ St t = eval-lts.Start (R-eval t) (eval-at t) eval.Post
 abbrev P : {t : ℕ} → St t → Pool
 P s = pool (now (s .args .codes)) (now (s .args .places)) (now (s .args .values))
 
--- where the first operand's value is known: by the shortcut or by a call
+-- where the first operand's value is known: by `low` or by a call
 abbrev One : ℕ → Type 0
 One t = eval-lts.Joined2 (R-eval t) (eval-at t) eval.Post
 
@@ -99,15 +99,15 @@ eval-returns t c =
 eval-operand-requires : (t : ℕ) → eval-lts.Need-operand-requires (R-eval t) (eval-at t) eval.Post
 eval-operand-requires t c κs = search needs
 
-eval-is-flat-requires : (t : ℕ) → eval-lts.Need-is-flat-requires (R-eval t) (eval-at t) eval.Post
-eval-is-flat-requires t c κs =
+eval-is-low-requires : (t : ℕ) → eval-lts.Need-is-low-requires (R-eval t) (eval-at t) eval.Post
+eval-is-low-requires t c κs =
     let s : St t = c .before .before .before in
     sound-any _ _ (now (s .args .values)) [] (first-down (s .pre .1) (s .pre .0) (c .before .if1 .left) (c .operand .ensures) .1)
 
-eval-flat-requires : (t : ℕ) → eval-lts.Need-flat-requires (R-eval t) (eval-at t) eval.Post
-eval-flat-requires t c κs =
+eval-low-requires : (t : ℕ) → eval-lts.Need-low-requires (R-eval t) (eval-at t) eval.Post
+eval-low-requires t c κs =
     let s : St t = c .before .before .before .before .before .before in
-    (first-down (s .pre .1) (s .pre .0) (c .before .before .before .before .if1 .left) (c .before .before .before .operand .ensures) .1, c .before .before .is-flat .ensures (c .before .if2 .taken))
+    (first-down (s .pre .1) (s .pre .0) (c .before .before .before .before .if1 .left) (c .before .before .before .operand .ensures) .1, c .before .before .is-low .ensures (c .before .if2 .taken))
 
 eval-eval-requires : (t : ℕ) → eval-lts.Need-eval-requires (R-eval t) (eval-at t) eval.Post
 eval-eval-requires t c κs =
@@ -205,10 +205,10 @@ pub +eval-spec : {M : Type 1} → statement M
   leaf-reads.Learnt,
   operand-reads.Asked,
   operand-reads.Learnt,
-  is-flat-reads.Asked,
-  is-flat-reads.Learnt,
-  flat-reads.Asked,
-  flat-reads.Learnt,
+  is-low-reads.Asked,
+  is-low-reads.Learnt,
+  low-reads.Asked,
+  low-reads.Learnt,
   eval-below t,
   eval.Post,
   truth-reads.Asked,
@@ -226,8 +226,8 @@ pub +eval-spec : {M : Type 1} → statement M
     (eval-leaf-requires t)
     (eval-returns t)
     (eval-operand-requires t)
-    (eval-is-flat-requires t)
-    (eval-flat-requires t)
+    (eval-is-low-requires t)
+    (eval-low-requires t)
     (eval-eval-requires t)
     (eval-truth-requires t)
     (eval-returns-2 t)

@@ -1,12 +1,11 @@
 -- `rules::is_flat` meets its contract: where it says yes, the three tests said so.
-use mathlib.Core.Path.{_≡_, sym, _∙_}
+use mathlib.Core.Path.{sym, _∙_}
 use native.Mathlib.Omega.{arith}
 use denote.Ref.{now}
 use mathlib.Core.List.{[]}
-use borrow.Author.Tests.{ltb-true}
 use Rattle.rules.specs.Pool.{Pool, pool}
 use Rattle.rules.proofs.Operators.{never}
-use Rattle.rules.proofs.Trees.{first-in, second-in, is-flat}
+use Rattle.rules.proofs.Trees.{first-low, second-low, is-flat}
 use borrow.Author.Needs.{needs}
 use Rattle.rules.proofs.is_flat.Statement.{statement}
 use Rattle.rules.proofs.is_flat.Tie as tie
@@ -22,14 +21,16 @@ operand-requires c κs = search needs
 
 is-leaf-requires : tie.Need-is-leaf-requires
 is-leaf-requires c κs =
-    let s : tie.Start = c .before .before .before in omega (arith, first-in (s .pre) (omega arith), s .pre .inside, s .pre .few, c .operand .ensures)
+    let s : tie.Start = c .before .before .before in
+    first-low (s .pre) (omega arith) (c .operand .ensures)
 
 operand-requires-2 : tie.Need-operand-requires-2
 operand-requires-2 c κs = search needs
 
 is-leaf-requires-2 : tie.Need-is-leaf-requires-2
 is-leaf-requires-2 c κs =
-    let s : tie.Start = c .before .before .before .before .before .before in omega (arith, second-in (s .pre) (omega arith), s .pre .inside, s .pre .few, c .operand2 .ensures)
+    let s : tie.Start = c .before .before .before .before .before .before in
+    second-low (s .pre) (omega arith) (c .operand2 .ensures)
 
 returns-2 : tie.Need-returns-2
 returns-2 c =
