@@ -13,7 +13,7 @@ use lib.Seq.{getD-set-same, getD-set-other}
 use lib.Dec.{ltb, eqb}
 use borrow.Author.Tests.{lt-ltb, le-ltb, le-leb, lt-leb, ltb-true, eqb-true, eqb-false, eq-eqb, ne-eqb}
 use Rattle.rules.specs.Pool.{Pool, pool, code, operand, known, arity, operandsTo, operands, allBelow, used, member, distinct, shaped, isTree}
-use Rattle.rules.specs.Walk.{Marked, Took, Placed}
+use Rattle.rules.specs.Walk.{Sound, Marked, Took, Placed, Passes}
 use Rattle.rules.proofs.Operators.{never}
 use Rattle.rules.proofs.Trees.{both-left, both-right}
 
@@ -159,6 +159,22 @@ module _ (P : Pool) (p : ℕ) where
         marks = λ e. k' .marked;
       }
 
+  -- the node of a leaf, and of a code with one, two and three operands, whose operands were taken
+  pub no-operand : {m : List ℕ} → code P p < 2 → Taken P p 0 m → Placed P p m true
+  no-operand h k = placed 0 (omega arith) (rw (arity, lt-ltb _ _ h)) k
+
+  pub one-operand : {m : List ℕ} → code P p ≡ 2 → Taken P p 1 m → Placed P p m true
+  one-operand h k = placed 1 (omega arith) (rw h) k
+
+  pub two-operands : {m : List ℕ} → 3 < code P p → code P p ≤ 12 → Taken P p 2 m → Placed P p m true
+  two-operands h l k =
+      placed 2 l (rw (arity, le-ltb (code P p) 2 (omega arith), ne-eqb (code P p) 2 (omega arith), ne-eqb (code P p) 3 (omega arith))) k
+
+  -- a third operand is the last, so it decides
+  pub third-decides : (r : Bool) {m n : List ℕ} → code P p ≡ 3 → Taken P p 2 m → p ≤ 512 → Took (operand P p 2) p m n r → Placed P p n r
+  third-decides true h k few t = placed 3 (omega arith) (rw h) (one-more 2 k few t refl)
+  third-decides false h k few t = refused 2 (omega arith) (rw h (omega arith)) k few t refl
+
 distinct-tail : (ys zs : List ℕ) → distinct zs ≡ false → distinct (ys ++ zs) ≡ false
 unfolding distinct
 distinct-tail [] zs e = e
@@ -199,6 +215,21 @@ module _ (P : Pool) where
       go true b f = rw (distinct-tail (operands P k) (used P k) f) (and-false b)
       go false b f = refl
 
+  -- the answers of the test of all nodes
+  pub stopped : {n : List ℕ} {r : Bool} (k p : ℕ) → p < k → Placed P p n r → r ≡ false → Passes P k p
+  stopped k p h t e = record {
+    inside = omega arith;
+    all = λ d. absurd (omega arith);
+    fails = λ d. node-fails k p h (sym (t .answer) ∙ e);
+  }
+
+  pub passed : {m : List ℕ} (k p : ℕ) → p ≡ k → Passed P p m → Passes P k p
+  passed k p e t = record {
+    inside = omega arith;
+    all = λ d. rw (← e, t .whole, t .marked .apart);
+    fails = λ d. absurd (omega arith);
+  }
+
 -- the answers of the tree test
 module _ (P : Pool) (count root : ℕ) where
   pub too-many : 512 < count → false ≡ isTree P count root
@@ -209,17 +240,13 @@ module _ (P : Pool) (count root : ℕ) where
   unfolding isTree
   no-root h l = rw (le-leb count 512 h, le-ltb root count l)
 
-  pub no-node : {n : List ℕ} {r : Bool} (p : ℕ) → count ≤ 512 → root < count → p < count → Placed P p n r → r ≡ false
-      → false ≡ isTree P count root
+  pub tested : {r : ℕ} → count ≤ 512 → root < count → Passes P count r → eqb r count ≡ isTree P count root
   unfolding isTree
-  no-node p h l b t e =
-      rw (le-leb count 512 h, lt-ltb root count l) (sym (node-fails P count p b (sym (t .answer) ∙ e)))
-
-  pub all-nodes : {p : ℕ} {m : List ℕ} → count ≤ 512 → root < count → p ≡ count → Passed P p m → true ≡ isTree P count root
-  unfolding isTree
-  all-nodes h l e k =
-      let k' : Passed P count _ = rw e at k in
-      rw (le-leb count 512 h, lt-ltb root count l, k' .whole, k' .marked .apart)
+  tested {r} h l t = rw (le-leb count 512 h, lt-ltb root count l) (go (eqb r count) refl)
+    where
+      go : (b : Bool) → eqb r count ≡ b → b ≡ (shaped P count && distinct (used P count))
+      go true e = sym (t .all (eqb-true r count e))
+      go false e = let d : r ≡ count → ⊥ = eqb-false r count e in sym (t .fails (omega (arith, t .inside)))
 
 -- the values are not looked at
 module _ (c s v w : List ℕ) where
@@ -241,3 +268,6 @@ module _ (c s v w : List ℕ) where
   pub tree-any : (count root : ℕ) → isTree (pool c s v) count root ≡ isTree (pool c s w) count root
   unfolding isTree
   tree-any count root = rw (shaped-any count, used-any count)
+
+  pub sound-any : {p : ℕ} → Sound (pool c s v) p → Sound (pool c s w) p
+  sound-any k = record { count = k .count; inside = k .inside; few = k .few; shape = sym (shaped-any (k .count)) ∙ k .shape }

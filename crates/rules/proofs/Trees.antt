@@ -1,7 +1,7 @@
 -- The tree that a pool holds at a place, by the code there. The definition counts down from the place; after `tree-is` nothing does.
-use mathlib.Core.Path.{_≡_, refl, ap}
+use mathlib.Core.Path.{_≡_, refl, sym, ap, _∙_}
 use mathlib.Core.Bool.{Bool, true, false, _&&_}
-use mathlib.Core.Logic.{⊎-elim}
+use mathlib.Core.Logic.{_⊎_, ⊎-elim}
 use Prim.Native.Nat.{ℕ, zero, suc, _<_, _≤_}
 use native.Mathlib.Omega.{arith}
 use native.Mathlib.Nat.{eq-or-lt-of-le, le-of-suc-le-suc}
@@ -9,7 +9,7 @@ use lib.Dec.{eqb, ltb}
 use borrow.Author.Tests.{lt-ltb, le-ltb, ltb-true, ne-eqb}
 use Rattle.rules.specs.Tree.{Op, Tree, var, int, nay, bin, cond}
 use Rattle.rules.specs.Pool.{Pool, code, value, operand, node, build, below, treeAt, treeOf, known, opOf, arity, operands, operandsTo, allBelow, shaped}
-use Rattle.rules.specs.Walk.{Sound}
+use Rattle.rules.specs.Walk.{Sound, Flat, Low}
 use Rattle.rules.proofs.Operators.{never}
 
 pub both-left : (a b : Bool) → (a && b) ≡ true → a ≡ true
@@ -96,7 +96,7 @@ unfolding operands
 operand-in {P} {p} s j h = each-below P p (arity (code P p)) j h (in-shape P (s .count) p (s .inside) (s .shape))
 
 -- how many operands a code has
-one-of : (c : ℕ) → 1 < c → 0 < arity c
+pub one-of : (c : ℕ) → 1 < c → 0 < arity c
 one-of c h = rw (arity, le-ltb c 2 (omega arith)) (go (eqb c 2) (eqb c 3))
   where
     go : (b d : Bool) → 0 < pickN b 1 (pickN d 3 2)
@@ -104,7 +104,7 @@ one-of c h = rw (arity, le-ltb c 2 (omega arith)) (go (eqb c 2) (eqb c 3))
     go false true = omega arith
     go false false = omega arith
 
-two-of : (c : ℕ) → 2 < c → 1 < arity c
+pub two-of : (c : ℕ) → 2 < c → 1 < arity c
 two-of c h = rw (arity, le-ltb c 2 (omega arith), ne-eqb c 2 (omega arith)) (go (eqb c 3))
   where
     go : (d : Bool) → 1 < pickN d 3 2
@@ -138,6 +138,18 @@ pub down : {P : Pool} {p q x t : ℕ} → Sound P p → p ≡ t → x < p → q 
 down s e l d =
     (omega arith, record { count = s .count; inside = omega (arith, s .inside); few = s .few; shape = s .shape })
 
+pub first-down : {P : Pool} {p q t : ℕ} → Sound P p → p ≡ t → 2 ≤ code P p → q ≡ operand P p 0 → (q < t) × Sound P q
+first-down s e h d = down s e (first-in s (omega arith)) d
+
+pub first-sound : {P : Pool} {p q : ℕ} → Sound P p → 1 < code P p → q ≡ operand P p 0 → Sound P q
+first-sound s h d = down s refl (first-in s h) d .1
+
+pub first-low : {P : Pool} {p q : ℕ} → Sound P p → 1 < code P p → q ≡ operand P p 0 → q < 512
+first-low s h d = omega (arith, first-in s h, s .inside, s .few)
+
+pub second-low : {P : Pool} {p q : ℕ} → Sound P p → 2 < code P p → q ≡ operand P p 1 → q < 512
+second-low s h d = omega (arith, second-in s h, s .inside, s .few)
+
 -- what a call at an operand's place gave
 pub got : {X : Type 0} (F : Tree → X) (P : Pool) {l q : ℕ} {u v : X} → u ≡ F (treeOf P l) → l ≡ q → u ≡ v → F (treeOf P q) ≡ v
 got F P e d f = cc
@@ -169,8 +181,25 @@ module _ (P : Pool) (p : ℕ) where
   pub binary-in : Sound P p → (code P p ≡ 0 → ⊥) → (code P p ≡ 1 → ⊥) → (code P p ≡ 2 → ⊥) → (code P p ≡ 3 → ⊥) → Binary
   binary-in s e0 e1 e2 e3 = (e0, e1, e2, e3, first-in s (omega arith), second-in s (omega arith))
 
+  pub binary-above : Sound P p → 3 < code P p → Binary
+  binary-above s h = binary-in s (omega arith) (omega arith) (omega arith) (omega arith)
+
   pub ternary-in : Sound P p → code P p ≡ 3 → Ternary
   ternary-in s e = (e, first-in s (omega arith), second-in s (omega arith), third-in s e)
+
+  pub is-flat : {i j : ℕ} → 3 < code P p → i ≡ operand P p 0 → ltb (code P i) 2 ≡ true → j ≡ operand P p 1 → ltb (code P j) 2 ≡ true → Flat P p
+  is-flat h d e f g = record { binary = h; left = ltb-true _ _ (rw d at e); right = ltb-true _ _ (rw f at g) }
+
+  pub is-low : {i j : ℕ} → 3 < code P p → i ≡ operand P p 0 → (code P i < 2) ⊎ Flat P i → j ≡ operand P p 1 → ltb (code P j) 2 ≡ true → Low P p
+  is-low h d e f g = record { binary = h; left = rw d at e; right = ltb-true _ _ (rw f at g) }
+
+  -- the left operand of such a node, where it is no leaf
+  pub left-flat : {i : ℕ} → Low P p → i ≡ operand P p 0 → ltb (code P i) 2 ≡ false → Flat P i
+  left-flat {i} k d e =
+      ⊎-elim
+      (λ (l : code P (operand P p 0) < 2). never (sym e ∙ lt-ltb (code P i) 2 (rw d l)))
+      (λ (l : Flat P (operand P p 0)). rw d l)
+      (k .left)
 
   pub tree-var : code P p ≡ 0 → treeOf P p ≡ var
   tree-var e = rw (tree-is P p, e)

@@ -4,12 +4,14 @@ ghost use mathlib.Core.Path.{_≡_};
 ghost use mathlib.Core.List.{[]};
 ghost use Prim.Native.Nat.{_+_, _<_, _≤_, _*_, min, max};
 ghost use lib.ListN.{getD};
+ghost use lib.Dec.{ltb};
+ghost use mathlib.Core.Bool.{true};
 ghost use Rattle.rules.specs.Tree.{bin, var, int, cmp, ne};
 ghost use Rattle.rules.specs.Value.{truth, compared, binary, evalTree};
 ghost use Rattle.rules.specs.Range.{opRange, rateTree};
-ghost use Rattle.rules.specs.Pool.{pool, arity, opOf, treeOf, used, isTree};
+ghost use Rattle.rules.specs.Pool.{pool, opOf, treeOf, used, isTree};
 ghost use Rattle.rules.specs.Store.{push, store, blank};
-ghost use Rattle.rules.specs.Walk.{settled, cmpOf, Sound, Marked, Took, Placed};
+ghost use Rattle.rules.specs.Walk.{settled, cmpOf, Gives, leafOf, Flat, Low, Sound, Marked, Took, Placed, Passes};
 ghost use Rattle.rules.specs.Answer.{resolvedOf, ratedOf, fitOf};
 
 // The codes of nodes.
@@ -144,18 +146,6 @@ fn wide(x: u16) -> usize
     x as usize
 }
 
-// How many operands a node has.
-fn arity(code: u8) -> usize
-    ensures { λ r. ⌜ r ≡ arity code ⌝ }
-{
-    match code {
-        node::N | node::INTEGER => 0,
-        node::NOT => 1,
-        node::TERNARY => 3,
-        _ => 2,
-    }
-}
-
 // Whether operand j of the node at p lies below it and is no operand yet; it is marked as one then.
 fn takes<'a>(places: &'a [u16; 1536], marks: &mut [u8; 512], p: usize, j: usize) -> bool
     requires { ⌜ (p < 512) × (j < 3) ⌝ }
@@ -183,19 +173,42 @@ fn is_node<'a>(
     ensures { λ r. ⌜ Placed (pool (now (codes .entry)) (now (places .entry)) []) p (now (marks .exit)) r ⌝ }
 {
     let code = codes[p];
+    if code < node::NOT {
+        return true;
+    }
     if node::MODULO < code {
         return false;
     }
-    let count = arity(code);
-    let mut j = 0;
-    while j < count {
-        if takes(places, marks, p, j) {
-            j += 1;
+    if !takes(places, marks, p, 0) {
+        return false;
+    }
+    if code == node::NOT {
+        return true;
+    }
+    if !takes(places, marks, p, 1) {
+        return false;
+    }
+    if code != node::TERNARY {
+        return true;
+    }
+    takes(places, marks, p, 2)
+}
+
+// The first place whose node fails, or the count. It is a place and no answer so that the loop carries one number only.
+fn passes<'a>(codes: &'a [u8; 512], places: &'a [u16; 1536], count: usize) -> usize
+    requires { ⌜ count ≤ 512 ⌝ }
+    ensures { λ r. ⌜ Passes (pool (now (codes .entry)) (now (places .entry)) []) count r ⌝ }
+{
+    let mut marks = [0u8; 512];
+    let mut p = 0;
+    while p < count {
+        if is_node(codes, places, &mut marks, p) {
+            p += 1;
         } else {
-            return false;
+            return p;
         }
     }
-    true
+    p
 }
 
 // Whether the nodes are a tree. The values are not looked at.
@@ -208,16 +221,7 @@ pub fn is_tree<'a>(codes: &'a [u8; 512], places: &'a [u16; 1536], count: usize, 
     if count <= root {
         return false;
     }
-    let mut marks = [0u8; 512];
-    let mut p = 0;
-    while p < count {
-        if is_node(codes, places, &mut marks, p) {
-            p += 1;
-        } else {
-            return false;
-        }
-    }
-    true
+    passes(codes, places, count) == count
 }
 
 fn truth(b: bool) -> u64
@@ -251,70 +255,169 @@ fn compares(code: u8, x: u64, y: u64) -> bool
     }
 }
 
-// A binary operator on two numbers.
-fn apply(code: u8, x: u64, y: u64) -> Value
-    ensures { λ r. ⌜ r ≡ binary (opOf code) (Value.Is x) (Value.Is y) ⌝ }
+// A binary operator on two numbers. A remainder by zero is told by the flag, and the number is of no use then.
+fn apply(code: u8, x: u64, y: u64, zero: &mut bool) -> u64
+    ensures { λ r. ⌜ Gives (binary (opOf code) (Value.Is x) (Value.Is y)) (now (zero .entry)) (now (zero .exit)) r ⌝ }
 {
     if code < node::AND {
-        return Value::Is(truth(compares(code, x, y)));
+        return truth(compares(code, x, y));
     }
     if code == node::AND {
         if x == 0 {
-            return Value::Is(0);
+            return 0;
         }
-        return Value::Is(truth(y != 0));
+        return truth(y != 0);
     }
     if code == node::OR {
         if x == 0 {
-            return Value::Is(truth(y != 0));
+            return truth(y != 0);
         }
-        return Value::Is(1);
+        return 1;
     }
     if y == 0 {
-        return Value::ZeroModulus;
+        *zero = true;
+        return 0;
     }
-    Value::Is(x % y)
+    x % y
 }
 
-// The value of the tree at a place.
+// Whether the node at a place is a leaf: n or an integer.
+fn is_leaf<'a>(codes: &'a [u8; 512], at: usize) -> bool
+    requires { ⌜ at < 512 ⌝ }
+    ensures { λ r. ⌜ r ≡ ltb (getD (now (codes .entry)) at 0) 2 ⌝ }
+{
+    codes[at] < node::NOT
+}
+
+// The number of a leaf.
+fn leaf<'a>(codes: &'a [u8; 512], values: &'a [u64; 512], at: usize, n: u64) -> u64
+    requires { ⌜ at < 512 ⌝ }
+    ensures { λ r. ⌜ r ≡ leafOf (pool (now (codes .entry)) [] (now (values .entry))) at n ⌝ }
+{
+    if codes[at] == node::N {
+        return n;
+    }
+    values[at]
+}
+
+// Whether the node at a place is a binary operator on two leaves, as n % 10 is.
+fn is_flat<'a>(codes: &'a [u8; 512], places: &'a [u16; 1536], at: usize) -> bool
+    requires { ⌜ Sound (pool (now codes) (now places) []) at ⌝ }
+    ensures { λ r. ⌜ (r ≡ true → Flat (pool (now (codes .entry)) (now (places .entry)) []) at) ⌝ }
+{
+    if codes[at] < node::EQUAL {
+        return false;
+    }
+    if is_leaf(codes, operand(places, at, 0)) {
+        return is_leaf(codes, operand(places, at, 1));
+    }
+    false
+}
+
+// The value of a binary operator on two leaves.
+fn flat<'a>(
+    codes: &'a [u8; 512],
+    places: &'a [u16; 1536],
+    values: &'a [u64; 512],
+    at: usize,
+    n: u64,
+    zero: &mut bool,
+) -> u64
+    requires sound { ⌜ Sound (pool (now codes) (now places) (now values)) at ⌝ }
+    requires flat { ⌜ Flat (pool (now codes) (now places) []) at ⌝ }
+    ensures { λ r. ⌜ Gives (evalTree (treeOf (pool (now (codes .entry)) (now (places .entry)) (now (values .entry))) at) n)
+        (now (zero .entry)) (now (zero .exit)) r ⌝ }
+{
+    let x = leaf(codes, values, operand(places, at, 0), n);
+    let y = leaf(codes, values, operand(places, at, 1), n);
+    apply(codes[at], x, y, zero)
+}
+
+// Whether the node at a place is a binary operator on a leaf or such a node and a leaf, as n == 1 and n % 10 == 1 are.
+fn is_low<'a>(codes: &'a [u8; 512], places: &'a [u16; 1536], at: usize) -> bool
+    requires { ⌜ Sound (pool (now codes) (now places) []) at ⌝ }
+    ensures { λ r. ⌜ (r ≡ true → Low (pool (now (codes .entry)) (now (places .entry)) []) at) ⌝ }
+{
+    if codes[at] < node::EQUAL {
+        return false;
+    }
+    if is_leaf(codes, operand(places, at, 1)) {
+        let left = operand(places, at, 0);
+        if is_leaf(codes, left) {
+            return true;
+        }
+        return is_flat(codes, places, left);
+    }
+    false
+}
+
+// The value of such a node. Rules are made of these for the most part, so they are answered without a call of eval.
+fn low<'a>(
+    codes: &'a [u8; 512],
+    places: &'a [u16; 1536],
+    values: &'a [u64; 512],
+    at: usize,
+    n: u64,
+    zero: &mut bool,
+) -> u64
+    requires sound { ⌜ Sound (pool (now codes) (now places) (now values)) at ⌝ }
+    requires low { ⌜ Low (pool (now codes) (now places) []) at ⌝ }
+    ensures { λ r. ⌜ Gives (evalTree (treeOf (pool (now (codes .entry)) (now (places .entry)) (now (values .entry))) at) n)
+        (now (zero .entry)) (now (zero .exit)) r ⌝ }
+{
+    let left = operand(places, at, 0);
+    let x = if is_leaf(codes, left) {
+        leaf(codes, values, left, n)
+    } else {
+        flat(codes, places, values, left, n, zero)
+    };
+    let y = leaf(codes, values, operand(places, at, 1), n);
+    apply(codes[at], x, y, zero)
+}
+
+// The value of the tree at a place. A remainder by zero that is met sets the flag, and the walk goes on: whatever is met is needed, so
+// no number counts then.
 fn eval<'a>(
     codes: &'a [u8; 512],
     places: &'a [u16; 1536],
     values: &'a [u64; 512],
     at: usize,
     n: u64,
-) -> Value
+    zero: &mut bool,
+) -> u64
     requires { ⌜ Sound (pool (now codes) (now places) (now values)) at ⌝ }
-    ensures { λ r. ⌜ r ≡ evalTree (treeOf (pool (now (codes .entry)) (now (places .entry)) (now (values .entry))) at) n ⌝ }
+    ensures { λ r. ⌜ Gives (evalTree (treeOf (pool (now (codes .entry)) (now (places .entry)) (now (values .entry))) at) n)
+        (now (zero .entry)) (now (zero .exit)) r ⌝ }
 {
     let code = codes[at];
-    if code == node::N {
-        return Value::Is(n);
+    if code < node::NOT {
+        return leaf(codes, values, at, n);
     }
-    if code == node::INTEGER {
-        return Value::Is(values[at]);
-    }
-    let first = eval(codes, places, values, operand(places, at, 0), n);
-    let Value::Is(x) = first else {
-        return Value::ZeroModulus;
+    let first = operand(places, at, 0);
+    let x = if is_low(codes, places, first) {
+        low(codes, places, values, first, n, zero)
+    } else {
+        eval(codes, places, values, first, n, zero)
     };
     if code == node::NOT {
-        return Value::Is(truth(x == 0));
+        return truth(x == 0);
     }
     if code == node::TERNARY {
         if x == 0 {
-            return eval(codes, places, values, operand(places, at, 2), n);
+            return eval(codes, places, values, operand(places, at, 2), n, zero);
         }
-        return eval(codes, places, values, operand(places, at, 1), n);
+        return eval(codes, places, values, operand(places, at, 1), n, zero);
     }
     if settles(code, x) {
-        return apply(code, x, 0);
+        return apply(code, x, 0, zero);
     }
-    let second = eval(codes, places, values, operand(places, at, 1), n);
-    let Value::Is(y) = second else {
-        return Value::ZeroModulus;
+    let second = operand(places, at, 1);
+    let y = if is_leaf(codes, second) {
+        leaf(codes, values, second, n)
+    } else {
+        eval(codes, places, values, second, n, zero)
     };
-    apply(code, x, y)
+    apply(code, x, y, zero)
 }
 
 // The value of a rule at a count.
@@ -329,10 +432,11 @@ pub fn resolve<'a>(
     ensures { λ r. ⌜ r ≡ resolvedOf (pool (now (codes .entry)) (now (places .entry)) (now (values .entry))) count root n ⌝ }
 {
     if is_tree(codes, places, count, root) {
-        let value = eval(codes, places, values, root, n);
-        let Value::Is(x) = value else {
+        let mut zero = false;
+        let x = eval(codes, places, values, root, n, &mut zero);
+        if zero {
             return Resolved::ZeroModulus;
-        };
+        }
         return Resolved::Form(x);
     }
     Resolved::NoTree

@@ -1,9 +1,11 @@
 -- `rules::apply` meets its contract: each return is the definition at the operator that the tests before it leave.
+use mathlib.Core.Path.{refl}
 use borrow.Author.Tests.{eq-eqb, ne-eqb}
 use native.Mathlib.Omega.{arith}
 use Rattle.rules.specs.Value.{binary, truthV}
 use Rattle.rules.specs.Pool.{opOf, opAt}
 use Rattle.rules.proofs.Operators.{op-cmp, op-rem}
+use Rattle.rules.proofs.Values.{number, failed}
 use borrow.Author.Needs.{needs}
 use Rattle.rules.proofs.apply.Statement.{statement}
 use Rattle.rules.proofs.apply.Tie as tie
@@ -16,40 +18,40 @@ truth-requires c κs = search needs
 
 returns : tie.Need-returns
 unfolding binary
-returns c = rw (op-cmp _ (c .before .before .if1 .taken), c .truth .ensures, c .before .compares .ensures)
+returns c = number (rw (op-cmp _ (c .before .before .if1 .taken), ← c .before .compares .ensures)) (c .truth .ensures)
 
 returns-2 : tie.Need-returns-2
 unfolding binary opOf opAt
-returns-2 c = rw (c .before .if2 .taken, eq-eqb _ _ (c .if3 .taken))
+returns-2 c = number (rw (c .before .if2 .taken, eq-eqb _ _ (c .if3 .taken))) refl
 
 truth-requires-2 : tie.Need-truth-requires-2
 truth-requires-2 c κs = search needs
 
 returns-3 : tie.Need-returns-3
 unfolding binary truthV opOf opAt
-returns-3 c = rw (c .before .before .if2 .taken, ne-eqb _ _ (c .before .if3 .left), c .truth2 .ensures)
+returns-3 c = number (rw (c .before .before .if2 .taken, ne-eqb _ _ (c .before .if3 .left))) (c .truth2 .ensures)
 
 truth-requires-3 : tie.Need-truth-requires-3
 truth-requires-3 c κs = search needs
 
 returns-4 : tie.Need-returns-4
 unfolding binary truthV opOf opAt
-returns-4 c = rw (c .before .before .if4 .taken, eq-eqb _ _ (c .before .if5 .taken), c .truth3 .ensures)
+returns-4 c = number (rw (c .before .before .if4 .taken, eq-eqb _ _ (c .before .if5 .taken))) (c .truth3 .ensures)
 
 returns-5 : tie.Need-returns-5
 unfolding binary opOf opAt
-returns-5 c = rw (c .before .if4 .taken, ne-eqb _ _ (c .if5 .left))
+returns-5 c = number (rw (c .before .if4 .taken, ne-eqb _ _ (c .if5 .left))) refl
 
 returns-6 : tie.Need-returns-6
 unfolding binary
-returns-6 c = rw (op-rem (c .before .before .before .before .args .code) (omega arith), eq-eqb _ _ (c .if6 .taken))
+returns-6 c = failed (rw (op-rem (c .before .before .before .before .args .code) (omega arith), eq-eqb _ _ (c .if6 .taken))) refl
 
-rem-t12 : tie.Need-rem-t12
-rem-t12 c = search needs
+rem-result : tie.Need-rem-result
+rem-result c = search needs
 
 returns-7 : tie.Need-returns-7
 unfolding binary
-returns-7 c = rw (op-rem (c .before .before .before .before .args .code) (omega arith), ne-eqb _ _ (c .if6 .left))
+returns-7 c = number (rw (op-rem (c .before .before .before .before .args .code) (omega arith), ne-eqb _ _ (c .if6 .left))) refl
 
 pub apply-spec : {M : Type 1} → statement M
 apply-spec =
@@ -65,5 +67,5 @@ apply-spec =
     returns-4
     returns-5
     returns-6
-    rem-t12
+    rem-result
     returns-7)

@@ -1,84 +1,78 @@
--- `rules::is_node` meets its contract. The loop's invariant: the operands before the j-th lie below p, none of them was an operand
--- before, and the marks are theirs and those of the nodes before p.
-use Prim.Native.Nat.{_≤_, _-_}
+-- `rules::is_node` meets its contract: the operands that the code uses are taken one after the other, and each return is the answer at
+-- those that were.
 use mathlib.Core.List.{[]}
 use native.Mathlib.Omega.{arith}
 use denote.Ref.{now}
+use borrow.Author.Tests.{not-true, not-false}
 use Rattle.rules.specs.Pool.{Pool, pool, code}
-use Rattle.rules.proofs.Trees.{three-most}
-use Rattle.rules.proofs.Marks.{Taken, none-taken, one-more, unknown, refused, placed}
+use Rattle.rules.proofs.Trees.{one-of, two-of}
+use Rattle.rules.proofs.Marks.{none-taken, one-more, unknown, refused, no-operand, one-operand, two-operands, third-decides}
 use borrow.Author.Needs.{needs}
 use Rattle.rules.proofs.is_node.Statement.{statement}
 use Rattle.rules.proofs.is_node.Tie as tie
 
-abbrev Inv-loop : tie.InvT-loop
-Inv-loop codes places marks₀ p code count j₀ marks j = (j ≤ count) × Taken (pool codes places []) p j marks
-
-abbrev μ-loop : tie.MeasureT-loop
-μ-loop codes places marks₀ p code count j₀ marks j = count - j
-
-abbrev P : tie.Start Inv-loop μ-loop → Pool
+abbrev P : tie.Start → Pool
 P s = pool (now (s .args .codes)) (now (s .args .places)) []
 
-element-copy-out-code : tie.Need-element-copy-out-code Inv-loop μ-loop
+element-copy-out-code : tie.Need-element-copy-out-code
 element-copy-out-code c = search needs
 
-returns : tie.Need-returns Inv-loop μ-loop
+returns : tie.Need-returns
 returns c =
-    let s : tie.Start Inv-loop μ-loop = c .before .before in
-    unknown (P s) (s .args .p) (c .if1 .taken)
+    let s : tie.Start = c .before .before in
+    no-operand (P s) (s .args .p) (c .if1 .taken) (none-taken (P s) (s .args .p) (s .pre .1))
 
-arity-requires : tie.Need-arity-requires Inv-loop μ-loop
-arity-requires c κs = search needs
-
-loop-holds : tie.Need-loop-holds Inv-loop μ-loop
-loop-holds c =
-    let s : tie.Start Inv-loop μ-loop = c .before .before .before in
-    (omega arith, none-taken (P s) (s .args .p) (s .pre .1))
-
-takes-requires : tie.Need-takes-requires Inv-loop μ-loop
-takes-requires c κs =
-    let s : tie.Start Inv-loop μ-loop = c .before .before .before .before .before .before in
-    (search needs, omega (arith, three-most (code (P s) (s .args .p)), c .before .before .before .arity .ensures))
-
-add-j : tie.Need-add-j Inv-loop μ-loop
-add-j c = search needs
-
-loop-less : tie.Need-loop-less Inv-loop μ-loop
-loop-less c = search needs
-
-loop-again : tie.Need-loop-again Inv-loop μ-loop
-loop-again c =
-    let s : tie.Start Inv-loop μ-loop = c .before .before .before .before .before .before .before .before in (
-      omega arith,
-      one-more (P s) (s .args .p) _ (c .before .before .before .before .loop .inv .1) (omega arith) (c .before .takes .ensures)
-          (c .if2 .taken),
-    )
-
-returns-2 : tie.Need-returns-2 Inv-loop μ-loop
+returns-2 : tie.Need-returns-2
 returns-2 c =
-    let s : tie.Start Inv-loop μ-loop = c .before .before .before .before .before .before .before .before in
-    refused (P s) (s .args .p) _ (c .before .before .before .before .before .before .if1 .left) (omega arith)
-    (c .before .before .before .before .loop .inv .1) (omega arith) (c .before .takes .ensures) (c .if2 .left)
+    let s : tie.Start = c .before .before .before in
+    unknown (P s) (s .args .p) (c .if2 .taken)
 
-returns-3 : tie.Need-returns-3 Inv-loop μ-loop
+takes-requires : tie.Need-takes-requires
+takes-requires c κs = search needs
+
+returns-3 : tie.Need-returns-3
 returns-3 c =
-    let s : tie.Start Inv-loop μ-loop = c .before .before .before .before .before in
-    placed (P s) (s .args .p) _ (c .before .before .before .if1 .left) (omega arith) (c .before .loop .inv .1)
+    let s : tie.Start = c .before .before .before .before .before .before in
+    refused (P s) (s .args .p) 0 (c .before .before .before .if2 .left) (one-of _ (c .before .before .before .before .if1 .left)) (none-taken (P s) (s .args .p) (s .pre .1)) (omega arith) (c .before .takes .ensures) (not-true _ (c .if3 .taken))
+
+returns-4 : tie.Need-returns-4
+returns-4 c =
+    let s : tie.Start = c .before .before .before .before .before .before .before in
+    one-operand (P s) (s .args .p) (c .if4 .taken) (one-more (P s) (s .args .p) 0 (none-taken (P s) (s .args .p) (s .pre .1)) (omega arith) (c .before .before .takes .ensures) (not-false _ (c .before .if3 .left)))
+
+takes-requires-2 : tie.Need-takes-requires-2
+takes-requires-2 c κs = search needs
+
+returns-5 : tie.Need-returns-5
+returns-5 c =
+    let s : tie.Start = c .before .before .before .before .before .before .before .before .before .before in
+    refused (P s) (s .args .p) 1 (c .before .before .before .before .before .before .before .if2 .left) (two-of (code (P s) (s .args .p)) (omega arith)) (one-more (P s) (s .args .p) 0 (none-taken (P s) (s .args .p) (s .pre .1)) (omega arith) (c .before .before .before .before .before .takes .ensures) (not-false _ (c .before .before .before .before .if3 .left))) (omega arith) (c .before .takes2 .ensures) (not-true _ (c .if5 .taken))
+
+returns-6 : tie.Need-returns-6
+returns-6 c =
+    let s : tie.Start = c .before .before .before .before .before .before .before .before .before .before .before in
+    two-operands (P s) (s .args .p) (omega arith) (c .before .before .before .before .before .before .before .before .if2 .left) (one-more (P s) (s .args .p) 1 (one-more (P s) (s .args .p) 0 (none-taken (P s) (s .args .p) (s .pre .1)) (omega arith) (c .before .before .before .before .before .before .takes .ensures) (not-false _ (c .before .before .before .before .before .if3 .left))) (omega arith) (c .before .before .takes2 .ensures) (not-false _ (c .before .if5 .left)))
+
+takes-requires-3 : tie.Need-takes-requires-3
+takes-requires-3 c κs = search needs
+
+returns-7 : tie.Need-returns-7
+returns-7 c =
+    let s : tie.Start = c .before .before .before .before .before .before .before .before .before .before .before .before .before in
+    third-decides (P s) (s .args .p) _ (c .before .before .if6 .left) (one-more (P s) (s .args .p) 1 (one-more (P s) (s .args .p) 0 (none-taken (P s) (s .args .p) (s .pre .1)) (omega arith) (c .before .before .before .before .before .before .before .before .takes .ensures) (not-false _ (c .before .before .before .before .before .before .before .if3 .left))) (omega arith) (c .before .before .before .before .takes2 .ensures) (not-false _ (c .before .before .before .if5 .left))) (omega arith) (c .takes3 .ensures)
 
 pub is-node-spec : {M : Type 1} → statement M
 is-node-spec =
     tie.close
     (tie.spec
-    Inv-loop
-    μ-loop
     element-copy-out-code
     returns
-    arity-requires
-    loop-holds
-    takes-requires
-    add-j
-    loop-less
-    loop-again
     returns-2
-    returns-3)
+    takes-requires
+    returns-3
+    returns-4
+    takes-requires-2
+    returns-5
+    returns-6
+    takes-requires-3
+    returns-7)
