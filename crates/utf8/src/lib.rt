@@ -81,8 +81,8 @@ fn tails_len(s: &[u8], i: usize, tails: usize) -> usize
     4
 }
 
-// The length of the character that stands at i, 0 where none does.
-fn char_len(s: &[u8], i: usize) -> usize
+// The length of the character that stands at i, by its row of the table, 0 where none does.
+fn row_len(s: &[u8], i: usize) -> usize
     requires { ⌜ i < length (now s) ⌝ }
     ensures { λ r. ⌜ CharAt (now (s .entry)) i r ⌝ }
 {
@@ -97,6 +97,27 @@ fn char_len(s: &[u8], i: usize) -> usize
             tails_len(s, i, tails)
         }
     }
+}
+
+// The length of the character that stands at i, 0 where none does. ASCII and characters of two bytes are told first, since most are that.
+fn char_len(s: &[u8], i: usize) -> usize
+    requires { ⌜ i < length (now s) ⌝ }
+    ensures { λ r. ⌜ CharAt (now (s .entry)) i r ⌝ }
+{
+    let b = s[i];
+    if b < 0x80 {
+        return 1;
+    }
+    if b < 0xC2 {
+        return 0;
+    }
+    if b < 0xE0 {
+        if stands_at(s, i + 1, 0x80, 0xBF) {
+            return 2;
+        }
+        return 0;
+    }
+    row_len(s, i)
 }
 
 // The UTF-8 test: RFC 3629. Most texts begin with ASCII, which is passed over in blocks.
