@@ -2,127 +2,14 @@
 // that cannot be touched, so that a write, and a read of one byte past the end (or before the start), ends the run.
 use std::ffi::{c_char, c_int, c_long, c_uint, c_void};
 
-#[repr(C)]
-#[derive(Clone, Copy, PartialEq, Debug)]
-pub struct Tables {
-    pub length: usize,
-    pub count: usize,
-    pub originals: usize,
-    pub translations: usize,
-    pub big: usize,
-}
-
-#[repr(C)]
-#[derive(Clone, Copy)]
-pub struct Record {
-    pub tables: Tables,
-    pub nodes: usize,
-    pub root: usize,
-    pub values: [u64; 512],
-    pub places: [u16; 1536],
-    pub codes: [u8; 512],
-}
-
-#[repr(C)]
-#[derive(Clone, Copy)]
-pub struct Loaded {
-    pub number: u32,
-    pub catalog: Record,
-}
-
-#[repr(C)]
-#[derive(Clone, Copy, PartialEq, Debug)]
-pub struct Answer {
-    pub number: u32,
-    pub which: u32,
-    pub entry: usize,
-    pub form: u64,
-    pub start: usize,
-    pub len: usize,
-}
-
-#[repr(C)]
-#[derive(Clone, Copy, PartialEq, Debug)]
-pub struct Rating {
-    pub number: u32,
-    pub rated: u32,
-    pub lowest: u64,
-    pub highest: u64,
-}
-
-#[repr(C)]
-#[derive(Clone, Copy, PartialEq, Debug)]
-pub struct Form {
-    pub number: u32,
-    pub form: u64,
-}
+// The declarations are the Rust host's own.
+#[allow(dead_code)]
+#[path = "../../host/rust/src/ffi.rs"]
+mod ffi;
+pub use ffi::{empty, is_utf8, Answer, Record};
+use ffi::{Form, Loaded, Rating};
 
 extern "C" {
-    fn gettext_rattle_empty() -> Record;
-    fn gettext_rattle_load(
-        file: *const u8,
-        file_len: usize,
-        rule: *const u8,
-        rule_len: usize,
-        forced: u32,
-        standard: u32,
-        utf8: u32,
-    ) -> Loaded;
-    fn gettext_rattle_gettext(file: *const u8, file_len: usize, tables: Tables, id: *const u8, id_len: usize) -> Answer;
-    fn gettext_rattle_pgettext(
-        file: *const u8,
-        file_len: usize,
-        tables: Tables,
-        context: *const u8,
-        context_len: usize,
-        id: *const u8,
-        id_len: usize,
-    ) -> Answer;
-    fn gettext_rattle_ngettext(
-        file: *const u8,
-        file_len: usize,
-        tables: Tables,
-        codes: *const [u8; 512],
-        places: *const [u16; 1536],
-        values: *const [u64; 512],
-        nodes: usize,
-        root: usize,
-        id: *const u8,
-        id_len: usize,
-        n: u64,
-    ) -> Answer;
-    fn gettext_rattle_npgettext(
-        file: *const u8,
-        file_len: usize,
-        tables: Tables,
-        codes: *const [u8; 512],
-        places: *const [u16; 1536],
-        values: *const [u64; 512],
-        nodes: usize,
-        root: usize,
-        context: *const u8,
-        context_len: usize,
-        id: *const u8,
-        id_len: usize,
-        n: u64,
-    ) -> Answer;
-    fn gettext_rattle_rating(
-        codes: *const [u8; 512],
-        places: *const [u16; 1536],
-        values: *const [u64; 512],
-        nodes: usize,
-        root: usize,
-    ) -> Rating;
-    fn gettext_rattle_evaluate(
-        codes: *const [u8; 512],
-        places: *const [u16; 1536],
-        values: *const [u64; 512],
-        nodes: usize,
-        root: usize,
-        n: u64,
-    ) -> Form;
-    fn gettext_rattle_is_utf8(text: *const u8, text_len: usize) -> u32;
-
     fn memfd_create(name: *const c_char, flags: c_uint) -> c_int;
     fn ftruncate(fd: c_int, length: c_long) -> c_int;
     fn mmap(addr: *mut c_void, length: usize, prot: c_int, flags: c_int, fd: c_int, offset: c_long) -> *mut c_void;
@@ -204,20 +91,10 @@ impl Lent {
 
     // The record is written where the oracle may write, and read by lookups where nobody may.
     pub fn load<'a>(&self, file: &'a [u8], rule: Option<&'a [u8]>, standard: bool, utf8: bool) -> Ours<'a> {
-        let forced = rule.is_some() as u32;
-        let rule = rule.unwrap_or(&file[..0]);
         let at = self.record.size - std::mem::size_of::<Loaded>();
         unsafe {
             let out = self.record.write.add(at) as *mut Loaded;
-            out.write(gettext_rattle_load(
-                file.as_ptr(),
-                file.len(),
-                rule.as_ptr(),
-                rule.len(),
-                forced,
-                standard as u32,
-                utf8 as u32,
-            ));
+            out.write(ffi::load(file, rule, standard, utf8));
             let seen = &*(self.record.read.add(at) as *const Loaded);
             Ours { number: seen.number, catalog: &seen.catalog }
         }
@@ -226,71 +103,27 @@ impl Lent {
 
 impl Ours<'_> {
     pub fn gettext(&self, file: &[u8], id: &[u8]) -> Answer {
-        unsafe { gettext_rattle_gettext(file.as_ptr(), file.len(), self.catalog.tables, id.as_ptr(), id.len()) }
+        ffi::gettext(file, self.catalog, id)
     }
 
     pub fn pgettext(&self, file: &[u8], context: &[u8], id: &[u8]) -> Answer {
-        unsafe {
-            gettext_rattle_pgettext(
-                file.as_ptr(),
-                file.len(),
-                self.catalog.tables,
-                context.as_ptr(),
-                context.len(),
-                id.as_ptr(),
-                id.len(),
-            )
-        }
+        ffi::pgettext(file, self.catalog, context, id)
     }
 
     pub fn ngettext(&self, file: &[u8], id: &[u8], n: u64) -> Answer {
-        let r = self.catalog;
-        unsafe {
-            gettext_rattle_ngettext(
-                file.as_ptr(),
-                file.len(),
-                r.tables,
-                &r.codes,
-                &r.places,
-                &r.values,
-                r.nodes,
-                r.root,
-                id.as_ptr(),
-                id.len(),
-                n,
-            )
-        }
+        ffi::ngettext(file, self.catalog, id, n)
     }
 
     pub fn npgettext(&self, file: &[u8], context: &[u8], id: &[u8], n: u64) -> Answer {
-        let r = self.catalog;
-        unsafe {
-            gettext_rattle_npgettext(
-                file.as_ptr(),
-                file.len(),
-                r.tables,
-                &r.codes,
-                &r.places,
-                &r.values,
-                r.nodes,
-                r.root,
-                context.as_ptr(),
-                context.len(),
-                id.as_ptr(),
-                id.len(),
-                n,
-            )
-        }
+        ffi::npgettext(file, self.catalog, context, id, n)
     }
 
     pub fn evaluate(&self, n: u64) -> Form {
-        let r = self.catalog;
-        unsafe { gettext_rattle_evaluate(&r.codes, &r.places, &r.values, r.nodes, r.root, n) }
+        ffi::evaluate(self.catalog, n)
     }
 
     pub fn rating(&self) -> Rating {
-        let r = self.catalog;
-        unsafe { gettext_rattle_rating(&r.codes, &r.places, &r.values, r.nodes, r.root) }
+        ffi::rating(self.catalog)
     }
 }
 
@@ -370,10 +203,4 @@ impl Record {
     }
 }
 
-pub fn empty() -> Record {
-    unsafe { gettext_rattle_empty() }
-}
 
-pub fn is_utf8(text: &[u8]) -> bool {
-    unsafe { gettext_rattle_is_utf8(text.as_ptr(), text.len()) != 0 }
-}

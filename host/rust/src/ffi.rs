@@ -12,7 +12,7 @@ compile_error!("the static library is built for x86-64");
 
 /// The record without its rule.
 #[repr(C)]
-#[derive(Clone, Copy)]
+#[derive(Clone, Copy, Debug, PartialEq)]
 pub struct Tables {
     pub length: usize,
     pub count: usize,
@@ -23,7 +23,7 @@ pub struct Tables {
 
 /// What lookups need beside the file.
 #[repr(C)]
-#[derive(Clone)]
+#[derive(Clone, Copy)]
 pub struct Record {
     pub tables: Tables,
     pub nodes: usize,
@@ -35,6 +35,7 @@ pub struct Record {
 
 /// A load's number and its record.
 #[repr(C)]
+#[derive(Clone, Copy)]
 pub struct Loaded {
     pub number: u32,
     pub catalog: Record,
@@ -42,7 +43,7 @@ pub struct Loaded {
 
 /// The text that answers: `which` 0 is the segment of the file at `start`, 1 the id, 2 the plural id.
 #[repr(C)]
-#[derive(Clone, Copy)]
+#[derive(Clone, Copy, Debug, PartialEq)]
 pub struct Answer {
     pub number: u32,
     pub which: u32,
@@ -54,6 +55,7 @@ pub struct Answer {
 
 /// The lowest and the highest form, where `rated` is not 0.
 #[repr(C)]
+#[derive(Clone, Copy, Debug, PartialEq)]
 pub struct Rating {
     pub number: u32,
     pub rated: u32,
@@ -70,6 +72,7 @@ pub struct Fits {
 
 /// The form that a rule names for a count.
 #[repr(C)]
+#[derive(Clone, Copy, Debug, PartialEq)]
 pub struct Form {
     pub number: u32,
     pub form: u64,
