@@ -144,7 +144,7 @@ pub fn rating(catalog: Record) -> Rated
 {
     let nodes = catalog.nodes;
     let root = catalog.root;
-    rules::rating_of(
+    rating::rating_of(
         &catalog.codes,
         &catalog.places,
         &catalog.values,
@@ -159,7 +159,7 @@ pub fn fits(catalog: Record, k: u64) -> Fit
 {
     let nodes = catalog.nodes;
     let root = catalog.root;
-    rules::fits(
+    rating::fits(
         &catalog.codes,
         &catalog.places,
         &catalog.values,

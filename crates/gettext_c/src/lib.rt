@@ -393,7 +393,7 @@ pub extern "C" fn gettext_rattle_rating<'a>(
 ) -> Rating
     ensures { λ r. ⌜ r ≡ ratingOf (ratedOf (pool (now (codes .entry)) (now (places .entry)) (now (values .entry))) nodes root) ⌝ }
 {
-    rating_of(rules::rating_of(codes, places, values, nodes, root))
+    rating_of(rating::rating_of(codes, places, values, nodes, root))
 }
 
 // Whether a record's rule is rated and names forms below k alone.
@@ -408,7 +408,7 @@ pub extern "C" fn gettext_rattle_fits<'a>(
 ) -> Fits
     ensures { λ r. ⌜ r ≡ fitsOf (fitOf (pool (now (codes .entry)) (now (places .entry)) (now (values .entry))) nodes root k) ⌝ }
 {
-    fits_of(rules::fits(codes, places, values, nodes, root, k))
+    fits_of(rating::fits(codes, places, values, nodes, root, k))
 }
 
 // The form that a record's rule names for a count.

@@ -1,7 +1,6 @@
 pub mod Operators
 pub mod Trees
 pub mod Values
-pub mod Ranges
 pub mod InRange
 pub mod Marks
 pub mod Answers

@@ -13,10 +13,6 @@ use Rattle.rules.proofs.is_tree.Reads as is-tree
 use Rattle.rules.proofs.is_tree.Kinds as is-tree-kinds
 use Rattle.rules.proofs.resolve.Reads as resolve
 use Rattle.rules.proofs.resolve.Kinds as resolve-kinds
-use Rattle.rules.proofs.rating_of.Reads as rating-of
-use Rattle.rules.proofs.rating_of.Kinds as rating-of-kinds
-use Rattle.rules.proofs.fits.Reads as fits
-use Rattle.rules.proofs.fits.Kinds as fits-kinds
 use Rattle.rules.proofs.default_rule.Reads as default-rule
 use Rattle.rules.proofs.default_rule.Kinds as default-rule-kinds
 use Rattle.rules.proofs.put.Reads as put
@@ -27,12 +23,6 @@ is-tree-one κs a u v x y p q = p ∙ sym q
 
 pub resolve-one : One 1 resolve-kinds.ps resolve-kinds.r resolve.Post
 resolve-one κs a u v x y p q = p ∙ sym q
-
-pub rating-one : One 1 rating-of-kinds.ps rating-of-kinds.r rating-of.Post
-rating-one κs a u v x y p q = p ∙ sym q
-
-pub fits-one : One 1 fits-kinds.ps fits-kinds.r fits.Post
-fits-one κs a u v x y p q = p ∙ sym q
 
 abbrev pub made : Pool → ℕ → Rule
 made P count = record { codes = P .codes; places = P .places; values = P .values; count = count }

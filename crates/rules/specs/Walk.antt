@@ -1,5 +1,5 @@
--- What the functions inside the crate ask and promise of one another: the walk over operands of document 01, "Two readings of a rule"
--- and "Range table", and the tree test of "The record", place by place.
+-- What the functions inside the crate, and inside `rating`, ask and promise of one another: the walk over operands of document 01, "Two
+-- readings of a rule" and "Range table", and the tree test of "The record", place by place.
 use Prim.Native.Nat.{ℕ, _+_, _-_, _<_, _≤_}
 use mathlib.Core.Path.{_≡_}
 use mathlib.Core.Bool.{Bool, true, false, not, _&&_}

@@ -1,27 +1,24 @@
-// A plural rule as nodes in arrays of numbers: the test that they are a tree, its value at a count, and its range.
-// A port of plurals.rs: `Ast`, `Operator`, `resolve`. `Box<Ast>` is a place in the arrays.
+// A plural rule as nodes in arrays of numbers: the test that they are a tree, and its value at a count.
+// A port of plurals.rs: `Ast`, `Operator`, `resolve`. `Box<Ast>` is a place in the arrays. The crate `rating` has the range; its answers
+// are declared here, since the definitions name them.
 ghost use mathlib.Core.Path.{_≡_};
 ghost use mathlib.Core.List.{[]};
-ghost use Prim.Native.Nat.{_+_, _<_, _≤_, _*_, min, max};
+ghost use Prim.Native.Nat.{_+_, _<_, _≤_, _*_};
 ghost use lib.ListN.{getD};
 ghost use lib.Dec.{ltb};
 ghost use mathlib.Core.Bool.{true};
 ghost use Rattle.rules.specs.Tree.{bin, var, int, cmp, ne};
 ghost use Rattle.rules.specs.Value.{truth, compared, binary, evalTree};
-ghost use Rattle.rules.specs.Range.{opRange, rateTree};
 ghost use Rattle.rules.specs.Pool.{pool, opOf, treeOf, used, isTree};
 ghost use Rattle.rules.specs.Store.{push, store, blank};
 ghost use Rattle.rules.specs.Walk.{settled, cmpOf, Gives, leafOf, Flat, Low, Sound, Marked, Took, Placed, Passes};
-ghost use Rattle.rules.specs.Answer.{resolvedOf, ratedOf, fitOf};
+ghost use Rattle.rules.specs.Answer.{resolvedOf};
 
 // The codes of nodes.
 pub mod node;
 
 // The most nodes of a rule.
 pub const MOST: usize = 512;
-
-// The largest count, 2^64 - 1.
-pub const LARGEST: u64 = 0xffff_ffff_ffff_ffff;
 
 // The value of a rule at a count.
 pub enum Value {
@@ -440,107 +437,4 @@ pub fn resolve<'a>(
         return Resolved::Form(x);
     }
     Resolved::NoTree
-}
-
-fn least(x: u64, y: u64) -> u64
-    ensures { λ r. ⌜ r ≡ min x y ⌝ }
-{
-    if x < y { x } else { y }
-}
-
-fn most(x: u64, y: u64) -> u64
-    ensures { λ r. ⌜ r ≡ max x y ⌝ }
-{
-    if x < y { y } else { x }
-}
-
-// The range of a binary operator, by the highest of the left operand and the range of the right.
-fn ranged(code: u8, h: u64, l: u64, m: u64) -> Rating
-    requires { ⌜ l ≤ m ⌝ }
-    ensures { λ r. ⌜ r ≡ opRange (opOf code) h l m ⌝ }
-{
-    if code < node::MODULO {
-        return Rating::Range(0, 1);
-    }
-    if l == 0 {
-        return Rating::Unrated;
-    }
-    Rating::Range(0, least(h, m - 1))
-}
-
-// The range of the tree at a place.
-fn rate<'a>(
-    codes: &'a [u8; 512],
-    places: &'a [u16; 1536],
-    values: &'a [u64; 512],
-    at: usize,
-) -> Rating
-    requires { ⌜ Sound (pool (now codes) (now places) (now values)) at ⌝ }
-    ensures { λ r. ⌜ r ≡ rateTree (treeOf (pool (now (codes .entry)) (now (places .entry)) (now (values .entry))) at) ⌝ }
-{
-    let code = codes[at];
-    if code == node::N {
-        return Rating::Range(0, LARGEST);
-    }
-    if code == node::INTEGER {
-        let x = values[at];
-        return Rating::Range(x, x);
-    }
-    let first = rate(codes, places, values, operand(places, at, 0));
-    let Rating::Range(_, h) = first else {
-        return Rating::Unrated;
-    };
-    if code == node::NOT {
-        return Rating::Range(0, 1);
-    }
-    let second = rate(codes, places, values, operand(places, at, 1));
-    let Rating::Range(l, m) = second else {
-        return Rating::Unrated; // reached or not
-    };
-    if code != node::TERNARY {
-        return ranged(code, h, l, m);
-    }
-    let third = rate(codes, places, values, operand(places, at, 2));
-    let Rating::Range(p, q) = third else {
-        return Rating::Unrated;
-    };
-    Rating::Range(least(l, p), most(m, q))
-}
-
-// The range of a rule.
-pub fn rating_of<'a>(
-    codes: &'a [u8; 512],
-    places: &'a [u16; 1536],
-    values: &'a [u64; 512],
-    count: usize,
-    root: usize,
-) -> Rated
-    ensures { λ r. ⌜ r ≡ ratedOf (pool (now (codes .entry)) (now (places .entry)) (now (values .entry))) count root ⌝ }
-{
-    if is_tree(codes, places, count, root) {
-        let range = rate(codes, places, values, root);
-        let Rating::Range(lo, hi) = range else {
-            return Rated::Unrated;
-        };
-        return Rated::Range(lo, hi);
-    }
-    Rated::NoTree
-}
-
-// Whether a rule fits k: it is rated, and its highest is below k.
-pub fn fits<'a>(
-    codes: &'a [u8; 512],
-    places: &'a [u16; 1536],
-    values: &'a [u64; 512],
-    count: usize,
-    root: usize,
-    k: u64,
-) -> Fit
-    ensures { λ r. ⌜ r ≡ fitOf (pool (now (codes .entry)) (now (places .entry)) (now (values .entry))) count root k ⌝ }
-{
-    match rating_of(codes, places, values, count, root) {
-        Rated::Range(_, hi) => if hi < k { Fit::Yes } else { Fit::No },
-        Rated::Unrated => Fit::No,
-        Rated::NoTree => Fit::NoTree,
-    }
 }

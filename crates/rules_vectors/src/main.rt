@@ -53,11 +53,11 @@ fn show<'a>(
     } else {
         say(b"no tree; range ");
     }
-    say_range(rules::rating_of(codes, places, values, count, root));
+    say_range(rating::rating_of(codes, places, values, count, root));
     say(b"; fits ");
     say_number(k);
     say(b" ");
-    say_fit(rules::fits(codes, places, values, count, root, k));
+    say_fit(rating::fits(codes, places, values, count, root, k));
     say(b"; at 0, 1, 2 ");
     say_form(rules::resolve(codes, places, values, count, root, 0));
     say(b" ");

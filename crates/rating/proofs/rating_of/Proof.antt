@@ -1,11 +1,11 @@
--- `rules::rating_of` meets its contract: a pool that passes the tree test can be walked from its root, and the walk gives the range.
+-- `rating::rating_of` meets its contract: a pool that passes the tree test can be walked from its root, and the walk gives the range.
 use mathlib.Core.Path.{sym}
 use denote.Ref.{now}
 use Rattle.rules.specs.Pool.{Pool, pool}
 use Rattle.rules.proofs.Answers.{told, sound, rates, rated-none}
 use borrow.Author.Needs.{needs}
-use Rattle.rules.proofs.rating_of.Statement.{statement}
-use Rattle.rules.proofs.rating_of.Tie as tie
+use Rattle.rating.proofs.rating_of.Statement.{statement}
+use Rattle.rating.proofs.rating_of.Tie as tie
 
 abbrev P : tie.Start → Pool
 P s = pool (now (s .args .codes)) (now (s .args .places)) (now (s .args .values))

@@ -1,12 +1,12 @@
--- `rules::ranged` meets its contract: below %'s code every operator yields a truth, and from it on the operator is %.
+-- `rating::ranged` meets its contract: below %'s code every operator yields a truth, and from it on the operator is %.
 use mathlib.Core.Path.{sym}
 use native.Mathlib.Omega.{arith}
 use borrow.Author.Tests.{eq-eqb, ne-eqb}
 use Rattle.rules.specs.Range.{opRange}
 use Rattle.rules.proofs.Operators.{range-below, op-rem}
 use borrow.Author.Needs.{needs}
-use Rattle.rules.proofs.ranged.Statement.{statement}
-use Rattle.rules.proofs.ranged.Tie as tie
+use Rattle.rating.proofs.ranged.Statement.{statement}
+use Rattle.rating.proofs.ranged.Tie as tie
 
 returns : tie.Need-returns
 returns c = sym (range-below _ _ _ _ (c .if1 .taken))

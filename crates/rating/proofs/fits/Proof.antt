@@ -1,13 +1,13 @@
--- `rules::fits` meets its contract: whether a rule fits is settled by its range.
+-- `rating::fits` meets its contract: whether a rule fits is settled by its range.
 use mathlib.Core.Path.{refl, ap}
 use denote.Ref.{now}
 use Rattle.rules.specs.Pool.{Pool, pool}
 use borrow.Author.Tests.{lt-ltb, le-ltb}
 use Rattle.rules.specs.Answer.{fitting}
 use Rattle.rules.proofs.Answers.{fits-as}
 use borrow.Author.Needs.{needs}
-use Rattle.rules.proofs.fits.Statement.{statement}
-use Rattle.rules.proofs.fits.Tie as tie
+use Rattle.rating.proofs.fits.Statement.{statement}
+use Rattle.rating.proofs.fits.Tie as tie
 
 abbrev P : tie.Start → Pool
 P s = pool (now (s .args .codes)) (now (s .args .places)) (now (s .args .values))

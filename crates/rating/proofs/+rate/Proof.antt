@@ -1,27 +1,27 @@
--- `rules::rate` meets its contract as `eval` does: the place is the measure, and each return is the range table's row at the tests
+-- `rating::rate` meets its contract as `eval` does: the place is the measure, and each return is the range table's row at the tests
 -- that led there. That a range is ordered lets `ranged` take 1 from a highest.
 use mathlib.Core.Path.{_≡_, _∙_}
 use native.Mathlib.Omega.{arith}
 use denote.Ref.{now}
 use Rattle.rules.specs.declared.Rating.the-variants.{Range}
 use Rattle.rules.specs.Range.{rateTree}
 use Rattle.rules.specs.Pool.{Pool, pool, operand, treeOf}
 use Rattle.rules.proofs.Trees.{first-in, second-in, third-in, down, got, binary-in, ternary-in}
-use Rattle.rules.proofs.Ranges.{rate-var, rate-int, rate-first, rate-nay, rate-second, rate-third, rate-bin, rate-cond}
+use Rattle.rating.proofs.Ranges.{rate-var, rate-int, rate-first, rate-nay, rate-second, rate-third, rate-bin, rate-cond}
 use Rattle.rules.proofs.InRange.{ordered}
 use borrow.Author.Needs.{needs}
 use Prim.Native.Nat.{ℕ, _<_}
 use borrow.Fn.Kinds.{In}
 use borrow.Fn.PlainCycle.{Measures, is, falls, and}
-use Rattle.rules.proofs.rate.Reads as rate
-use Rattle.rules.proofs.rate.Kinds as rate-kinds
-use Rattle.rules.proofs.+rate.Lts-rate as rate-lts
-use Rattle.rules.proofs.least.Reads as least-reads
-use Rattle.rules.proofs.most.Reads as most-reads
-use Rattle.rules.proofs.operand.Reads as operand-reads
-use Rattle.rules.proofs.ranged.Reads as ranged-reads
-use Rattle.rules.proofs.+rate.{statement}
-use Rattle.rules.proofs.+rate.Tie.{close}
+use Rattle.rating.proofs.rate.Reads as rate
+use Rattle.rating.proofs.rate.Kinds as rate-kinds
+use Rattle.rating.proofs.+rate.Lts-rate as rate-lts
+use Rattle.rating.proofs.least.Reads as least-reads
+use Rattle.rating.proofs.most.Reads as most-reads
+use Rattle.rating.proofs.operand.Reads as operand-reads
+use Rattle.rating.proofs.ranged.Reads as ranged-reads
+use Rattle.rating.proofs.+rate.{statement}
+use Rattle.rating.proofs.+rate.Tie.{close}
 
 abbrev μ-rate : Measures 1 rate-kinds.ps ℕ
 μ-rate κs a = a .1 .1 .1 .0
