@@ -12,9 +12,9 @@ use Rattle.text.specs.Trim.{trim, trimStart, trimEnd, six}
 use Rattle.text.proofs.Trimming.{trim-bound}
 use Rattle.rules.specs.Tree.{Tree, var, int, nay, bin, cond, Op, Reading, tree, none}
 use Rattle.rules.specs.Store.{size}
-use Rattle.shipped.specs.Scan.{indexOf, endFrom, integer}
-use Rattle.shipped.specs.declared.scan.Number.{Number}
-use Rattle.shipped.specs.declared.scan.Number.the-variants.{Whole, NoNumber}
+use Rattle.scan.specs.Scan.{indexOf, endFrom, integer}
+use Rattle.scan.specs.declared.Number.{Number}
+use Rattle.scan.specs.declared.Number.the-variants.{Whole, NoNumber}
 use Rattle.shipped.specs.Shipped.{Kind, binary, ternary, Row, rows, one, two, three, readN, orN, readInt, found, bang, colon, readNot, choose, cut, level, inside, parens, parseIn, shipped}
 
 -- a tree of at most n nodes, if any

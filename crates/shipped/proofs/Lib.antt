@@ -1,5 +1,4 @@
 pub mod Cases
-mod Scanned
 mod Table
 mod Written
 mod Fuel

@@ -11,7 +11,7 @@ use borrow.Author.Tests.{lt-ltb, le-ltb, ltb-true}
 use Rattle.rules.specs.Tree.{rem, Reading}
 use Rattle.text.specs.Trim.{trim, six}
 use Rattle.rules.specs.Store.{opCode}
-use Rattle.shipped.specs.Scan.{indexOf}
+use Rattle.scan.specs.Scan.{indexOf}
 use Rattle.shipped.specs.Shipped.{Row, row, rows, binary, found, cutAt, readNot, level, shipped}
 use Rattle.shipped.specs.Promise.{rowAt, rowOf, codeOf}
 

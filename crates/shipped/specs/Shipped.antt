@@ -7,9 +7,9 @@ use lib.ListN.{length, getD, take, drop}
 use lib.Dec.{ltb, eqb}
 use Rattle.rules.specs.Tree.{Tree, var, int, nay, bin, cond, Op, cmp, and, or, rem, eq, ne, ge, le, gt, lt, Reading, tree, none}
 use Rattle.text.specs.Trim.{trim, six}
-use Rattle.shipped.specs.declared.scan.Number.{Number}
-use Rattle.shipped.specs.declared.scan.Number.the-variants.{Whole, NoNumber}
-use Rattle.shipped.specs.Scan.{indexOf, endFrom, integer}
+use Rattle.scan.specs.declared.Number.{Number}
+use Rattle.scan.specs.declared.Number.the-variants.{Whole, NoNumber}
+use Rattle.scan.specs.Scan.{indexOf, endFrom, integer}
 
 -- the levels, in the order in which the Rust tries them: the pattern that is sought, and what the text is cut into there
 pub data Kind : Type 0 where

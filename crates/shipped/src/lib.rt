@@ -7,11 +7,9 @@ ghost use Rattle.rules.specs.Pool.{pool};
 ghost use Rattle.rules.specs.Store.{push};
 ghost use Rattle.rules.specs.Reads.{Answered};
 ghost use Rattle.rules.specs.declared.Nodes.the-variants as Nodes;
-ghost use Rattle.shipped.specs.Scan.{indexOf};
+ghost use Rattle.scan.specs.Scan.{indexOf};
 ghost use Rattle.shipped.specs.Shipped.{rows, readN, readInt, colon, readNot, choose, cutAt, level, parens, shipped};
 ghost use Rattle.shipped.specs.Promise.{Gives, Cuts, rowAt, rowOf, codeOf};
-
-mod scan; // scan.rt: what is looked for in a text
 
 // The levels in their order: two signs for each, how many of them count, and the code of the node.
 const SIGNS: [u8; 20] = *b"&&||?\0>=>\0<=<\0==!=%\0";
