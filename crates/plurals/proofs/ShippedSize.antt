@@ -15,7 +15,8 @@ use Rattle.rules.specs.Store.{size}
 use Rattle.scan.specs.Scan.{indexOf, endFrom, integer}
 use Rattle.scan.specs.declared.Number.{Number}
 use Rattle.scan.specs.declared.Number.the-variants.{Whole, NoNumber}
-use Rattle.shipped.specs.Shipped.{Kind, binary, ternary, Row, rows, one, two, three, readN, orN, readInt, found, bang, colon, readNot, choose, cut, level, inside, parens, parseIn, shipped}
+use Rattle.scan.specs.Levels.{Kind, binary, ternary, Row, rows, found}
+use Rattle.shipped.specs.Shipped.{one, two, three, readN, orN, readInt, bang, colon, readNot, choose, cut, level, inside, parens, parseIn, shipped}
 
 -- a tree of at most n nodes, if any
 pub record Small (o : Reading) (n : ℕ) : Type 0 where

@@ -1,11 +1,13 @@
-// What the Shipped reading looks for in a text: a pattern outside brackets, where a bracket ends, an integer.
-// A port of plurals.rs: `index_of`, the fold of `parse_parens`, and `u64::from_str_radix`; the closures are plain loops over bytes.
+// What the Shipped reading looks for in a text: a pattern outside brackets, where a bracket ends, an integer, the first level that cuts.
+// A port of plurals.rs: `index_of`, the fold of `parse_parens`, `u64::from_str_radix`, and the patterns of the levels; the closures are plain
+// loops over bytes.
 ghost use mathlib.Core.Path.{_≡_};
 ghost use mathlib.Core.Bool.{_&&_};
 ghost use Prim.Native.Nat.{_<_, _≤_};
 ghost use lib.Dec.{eqb};
 ghost use lib.ListN.{length, getD};
 ghost use Rattle.scan.specs.Scan.{counted, indexOf, deeper, further, endFrom, digits, integer};
+ghost use Rattle.scan.specs.Levels.{rows, rowAt, rowOf, codeOf};
 ghost use Rattle.scan.specs.Promise.{matched, digitOn};
 
 // What `from_str_radix` makes of a text.
@@ -177,4 +179,52 @@ pub fn integer_of(s: &[u8]) -> Number
         return digits_of(&s[1..]);
     }
     digits_of(s)
+}
+
+// The levels in their order: two signs for each, how many of them count, and the code of the node.
+const SIGNS: [u8; 20] = *b"&&||?\0>=>\0<=<\0==!=%\0";
+
+const WIDTHS: [usize; 10] = [2, 2, 1, 2, 1, 2, 1, 2, 2, 1];
+
+const CODES: [u8; 10] = [10, 11, 3, 6, 8, 7, 9, 4, 5, 12];
+
+// How many signs the pattern of a row has.
+pub fn width_of(row: usize) -> usize
+    requires { ⌜ row < 10 ⌝ }
+    ensures { λ r. ⌜ r ≡ length (rowAt row .pattern) ⌝ }
+{
+    WIDTHS[row]
+}
+
+// The code of the node that a row makes.
+pub fn code_of(row: usize) -> u8
+    requires { ⌜ row < 10 ⌝ }
+    ensures { λ r. ⌜ r ≡ codeOf (rowAt row .kind) ⌝ }
+{
+    CODES[row]
+}
+
+// Where a row's pattern stands, or the text's length.
+pub fn place_of(s: &[u8], row: usize) -> usize
+    requires { ⌜ row < 10 ⌝ }
+    ensures { λ r. ⌜ r ≡ indexOf (rowAt row .pattern) (now (s .entry)) ⌝ }
+{
+    let signs = SIGNS;
+    let start = 2 * row;
+    let end = start + width_of(row);
+    index_of(s, &signs[start..end])
+}
+
+// The first row whose pattern stands in the text, or the number of rows.
+pub fn row_of(s: &[u8]) -> usize
+    ensures { λ r. ⌜ r ≡ rowOf rows (now (s .entry)) ⌝ }
+{
+    let mut row = 0;
+    while row < 10 {
+        if place_of(s, row) < s.len() {
+            return row;
+        }
+        row += 1;
+    }
+    row
 }

@@ -1,5 +1,5 @@
 pub mod Cases
-mod Table
+mod Levels
 mod Written
 mod Fuel
 mod Steps

@@ -1,17 +1,16 @@
 -- What the functions inside the Shipped reader promise: the nodes of a piece's tree in the lent arrays, or no reading. Document 01, "Two
 -- readings of a rule" and "The record"; where nodes go is rules' `store`, and what the reader itself promises is rules' `Answered`.
-use Prim.Native.Nat.{ℕ, suc, _+_, _<_, _≤_}
+use Prim.Native.Nat.{ℕ, _+_, _<_, _≤_}
 use mathlib.Core.Path.{_≡_}
-use mathlib.Core.Bool.{true, false}
-use mathlib.Core.List.{List, [], _∷_}
-use lib.ListN.{length, getD}
-use Rattle.rules.specs.Tree.{Tree, rem, Reading, tree, none}
+use mathlib.Core.List.{List}
+use lib.ListN.{length}
+use Rattle.rules.specs.Tree.{Tree, Reading, tree, none}
 use Rattle.rules.specs.Pool.{Pool}
-use Rattle.rules.specs.Store.{size, store, opCode}
+use Rattle.rules.specs.Store.{size, store}
 use Rattle.rules.specs.declared.Nodes.{Nodes}
 use Rattle.rules.specs.declared.Nodes.the-variants.{Read, NoReading}
 use Rattle.scan.specs.Scan.{indexOf}
-use Rattle.shipped.specs.Shipped.{Kind, binary, ternary, Row, row, rows, found}
+use Rattle.scan.specs.Levels.{rowAt}
 
 -- a tree of at most n nodes from place k on: the next free place is the answer
 pub record Stored (t : Tree) (n k : ℕ) (P Q : Pool) (r : Nodes) : Type 0 where
@@ -26,19 +25,6 @@ Wrote none n k P Q r = r ≡ NoReading
 -- what a text of n bytes with this reading leaves
 pub record Gives (o : Reading) (n k : ℕ) (P Q : Pool) (r : Nodes) : Type 0 where
   pub wrote : Wrote o n k P Q r
-
--- the row at a place of the table; the first that has a match, or the table's length
-abbrev pub rowAt : ℕ → Row
-rowAt l = getD rows l (row [] (binary rem))
-
-unfoldable pub rowOf : List Row → List ℕ → ℕ
-rowOf [] s = 0
-rowOf (r ∷ rs) s = elim (found (r .pattern) s) [ true ↦ 0 | false ↦ suc (rowOf rs s) ]
-
--- the code of the node that a row makes
-abbrev pub codeOf : Kind → ℕ
-codeOf (binary op) = opCode op
-codeOf ternary = 3
 
 -- a row with a match, and a place for each byte
 pub record Cuts (l : ℕ) (s : List ℕ) (k : ℕ) : Type 0 where
