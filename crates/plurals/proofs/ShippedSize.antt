@@ -12,10 +12,11 @@ use Rattle.text.specs.Trim.{trim, trimStart, trimEnd, six}
 use Rattle.text.proofs.Trimming.{trim-bound}
 use Rattle.rules.specs.Tree.{Tree, var, int, nay, bin, cond, Op, Reading, tree, none}
 use Rattle.rules.specs.Store.{size}
-use Rattle.shipped.specs.Scan.{indexOf, endFrom, integer}
-use Rattle.shipped.specs.declared.scan.Number.{Number}
-use Rattle.shipped.specs.declared.scan.Number.the-variants.{Whole, NoNumber}
-use Rattle.shipped.specs.Shipped.{Kind, binary, ternary, Row, rows, one, two, three, readN, orN, readInt, found, bang, colon, readNot, choose, cut, level, inside, parens, parseIn, shipped}
+use Rattle.scan.specs.Scan.{indexOf, endFrom, integer}
+use Rattle.scan.specs.declared.Number.{Number}
+use Rattle.scan.specs.declared.Number.the-variants.{Whole, NoNumber}
+use Rattle.scan.specs.Levels.{Kind, binary, ternary, Row, rows, found}
+use Rattle.shipped.specs.Shipped.{one, two, three, readN, orN, readInt, bang, colon, readNot, choose, cut, level, inside, parens, parseIn, shipped}
 
 -- a tree of at most n nodes, if any
 pub record Small (o : Reading) (n : ℕ) : Type 0 where

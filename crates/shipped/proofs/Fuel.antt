@@ -11,8 +11,9 @@ use borrow.Author.Tests.{ltb-true, eqb-true}
 use Rattle.rules.specs.Tree.{Reading}
 use Rattle.text.specs.Trim.{trim, six}
 use Rattle.text.proofs.Trimming.{trim-bound}
-use Rattle.shipped.specs.Scan.{indexOf, endFrom}
-use Rattle.shipped.specs.Shipped.{Kind, binary, ternary, Row, rows, two, one, found, readNot, choose, cut, level, inside, parens, parseIn, shipped, bang, colon}
+use Rattle.scan.specs.Scan.{indexOf, endFrom}
+use Rattle.scan.specs.Levels.{Kind, binary, ternary, Row, rows, found}
+use Rattle.shipped.specs.Shipped.{two, one, readNot, choose, cut, level, inside, parens, parseIn, shipped, bang, colon}
 
 pub trim-le : (s : List ℕ) → length (trim six s) ≤ length s
 trim-le s = omega (arith, trim-bound six s)

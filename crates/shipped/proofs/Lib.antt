@@ -1,6 +1,5 @@
 pub mod Cases
-mod Scanned
-mod Table
+mod Levels
 mod Written
 mod Fuel
 mod Steps

@@ -13,12 +13,13 @@ use Rattle.rules.specs.Pool.{Pool}
 use Rattle.rules.specs.Store.{opCode}
 use Rattle.rules.specs.declared.Nodes.{Nodes}
 use Rattle.text.specs.Trim.{trim, six}
-use Rattle.shipped.specs.declared.scan.Number.{Number}
-use Rattle.shipped.specs.Scan.{indexOf, integer, endFrom}
-use Rattle.shipped.specs.Shipped.{Kind, binary, ternary, Row, rows, two, three, one, found, readN, orN, readInt, readNot, choose, cut, cutAt, level, inside, parens, shipped, bang, colon}
-use Rattle.shipped.specs.Promise.{Gives, codeOf}
+use Rattle.scan.specs.declared.Number.{Number}
+use Rattle.scan.specs.Scan.{indexOf, integer, endFrom}
+use Rattle.scan.specs.Levels.{Kind, binary, ternary, Row, rows, found, codeOf}
+use Rattle.shipped.specs.Shipped.{two, three, one, readN, orN, readInt, readNot, choose, cut, cutAt, level, inside, parens, shipped, bang, colon}
+use Rattle.shipped.specs.Promise.{Gives}
 use Rattle.shipped.proofs.Written.{wider}
-use Rattle.shipped.proofs.Scanned.{tail-is}
+use Rattle.scan.proofs.Scanned.{tail-is}
 use Rattle.shipped.proofs.Fuel.{trim-le}
 
 -- a trimmed text, as the code has it, is no longer; its reading is that of the text where a definition says so

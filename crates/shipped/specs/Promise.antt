@@ -1,20 +1,16 @@
 -- What the functions inside the Shipped reader promise: the nodes of a piece's tree in the lent arrays, or no reading. Document 01, "Two
 -- readings of a rule" and "The record"; where nodes go is rules' `store`, and what the reader itself promises is rules' `Answered`.
-use Prim.Native.Nat.{ℕ, suc, _+_, _-_, _*_, _^_, _<_, _≤_}
+use Prim.Native.Nat.{ℕ, _+_, _<_, _≤_}
 use mathlib.Core.Path.{_≡_}
-use mathlib.Core.Bool.{true, false}
-use mathlib.Core.List.{List, [], _∷_}
-use lib.Dec.{ltb}
-use lib.ListN.{length, getD}
-use Rattle.rules.specs.Tree.{Tree, rem, Reading, tree, none}
+use mathlib.Core.List.{List}
+use lib.ListN.{length}
+use Rattle.rules.specs.Tree.{Tree, Reading, tree, none}
 use Rattle.rules.specs.Pool.{Pool}
-use Rattle.rules.specs.Store.{size, store, opCode}
+use Rattle.rules.specs.Store.{size, store}
 use Rattle.rules.specs.declared.Nodes.{Nodes}
 use Rattle.rules.specs.declared.Nodes.the-variants.{Read, NoReading}
-use Rattle.shipped.specs.declared.scan.Number.{Number}
-use Rattle.shipped.specs.declared.scan.Number.the-variants.{Whole, NoNumber}
-use Rattle.shipped.specs.Scan.{stands, indexOf, digit}
-use Rattle.shipped.specs.Shipped.{Kind, binary, ternary, Row, row, rows, found}
+use Rattle.scan.specs.Scan.{indexOf}
+use Rattle.scan.specs.Levels.{rowAt}
 
 -- a tree of at most n nodes from place k on: the next free place is the answer
 pub record Stored (t : Tree) (n k : ℕ) (P Q : Pool) (r : Nodes) : Type 0 where
@@ -30,34 +26,8 @@ Wrote none n k P Q r = r ≡ NoReading
 pub record Gives (o : Reading) (n k : ℕ) (P Q : Pool) (r : Nodes) : Type 0 where
   pub wrote : Wrote o n k P Q r
 
--- the row at a place of the table; the first that has a match, or the table's length
-abbrev pub rowAt : ℕ → Row
-rowAt l = getD rows l (row [] (binary rem))
-
-unfoldable pub rowOf : List Row → List ℕ → ℕ
-rowOf [] s = 0
-rowOf (r ∷ rs) s = elim (found (r .pattern) s) [ true ↦ 0 | false ↦ suc (rowOf rs s) ]
-
--- the code of the node that a row makes
-abbrev pub codeOf : Kind → ℕ
-codeOf (binary op) = opCode op
-codeOf ternary = 3
-
 -- a row with a match, and a place for each byte
 pub record Cuts (l : ℕ) (s : List ℕ) (k : ℕ) : Type 0 where
   pub known : l < 10
   pub match : indexOf (rowAt l .pattern) s < length s
   pub few : k + length s ≤ 512
-
--- the steps of two loops
--- how many signs of the pattern are matched after a byte, of which n were before: one that breaks a match starts no other
-abbrev pub matched : List ℕ → ℕ → ℕ → ℕ
-matched pat n ch = elim (stands pat n ch) [ true ↦ n + 1 | false ↦ 0 ]
-
--- a number with one digit more
-abbrev pub digitOn : ℕ → ℕ → Number
-digitOn v ch =
-    elim (digit ch) [
-      | true ↦ elim (ltb (10 * v + (ch - 48)) (2 ^ 64)) [ true ↦ Whole (10 * v + (ch - 48)) | false ↦ NoNumber ]
-      | false ↦ NoNumber
-    ]

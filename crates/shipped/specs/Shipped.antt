@@ -1,42 +1,16 @@
 -- The Shipped reading: `Ast::parse` of the Rust's plurals.rs, transcribed. Document 01, "Two readings of a rule".
 -- Each definition names the Rust's function; `parse` stands for the reading of a piece.
 use Prim.Native.Nat.{ℕ, zero, suc, _+_, _-_}
-use mathlib.Core.Bool.{Bool, true, false}
+use mathlib.Core.Bool.{true, false}
 use mathlib.Core.List.{List, [], _∷_}
 use lib.ListN.{length, getD, take, drop}
 use lib.Dec.{ltb, eqb}
-use Rattle.rules.specs.Tree.{Tree, var, int, nay, bin, cond, Op, cmp, and, or, rem, eq, ne, ge, le, gt, lt, Reading, tree, none}
+use Rattle.rules.specs.Tree.{Tree, var, int, nay, bin, cond, Op, Reading, tree, none}
 use Rattle.text.specs.Trim.{trim, six}
-use Rattle.shipped.specs.declared.scan.Number.{Number}
-use Rattle.shipped.specs.declared.scan.Number.the-variants.{Whole, NoNumber}
-use Rattle.shipped.specs.Scan.{indexOf, endFrom, integer}
-
--- the levels, in the order in which the Rust tries them: the pattern that is sought, and what the text is cut into there
-pub data Kind : Type 0 where
-  binary : Op → Kind
-  ternary : Kind
-
-pub record Row : Type 0 where
-  pub pattern : List ℕ
-  pub kind : Kind
-
-abbrev pub row : List ℕ → Kind → Row
-row p k = record { pattern = p; kind = k }
-
--- && || ? >= > <= < == != %
-abbrev pub rows : List Row
-rows =
-    row (38 ∷ 38 ∷ []) (binary and) ∷
-    row (124 ∷ 124 ∷ []) (binary or) ∷
-    row (63 ∷ []) ternary ∷
-    row (62 ∷ 61 ∷ []) (binary (cmp ge)) ∷
-    row (62 ∷ []) (binary (cmp gt)) ∷
-    row (60 ∷ 61 ∷ []) (binary (cmp le)) ∷
-    row (60 ∷ []) (binary (cmp lt)) ∷
-    row (61 ∷ 61 ∷ []) (binary (cmp eq)) ∷
-    row (33 ∷ 61 ∷ []) (binary (cmp ne)) ∷
-    row (37 ∷ []) (binary rem) ∷
-    []
+use Rattle.scan.specs.declared.Number.{Number}
+use Rattle.scan.specs.declared.Number.the-variants.{Whole, NoNumber}
+use Rattle.scan.specs.Scan.{indexOf, endFrom, integer}
+use Rattle.scan.specs.Levels.{Kind, binary, ternary, Row, rows, found}
 
 -- a node over the readings of its operands: one that has none leaves none
 abbrev pub one : Reading → Reading
@@ -64,10 +38,6 @@ orN NoNumber s = readN (trim six s)
 
 abbrev pub readInt : List ℕ → Reading
 readInt s = orN (integer s) s
-
--- `index_of` gives a place: the pattern stands in the text, outside brackets
-abbrev pub found : List ℕ → List ℕ → Bool
-found pat s = ltb (indexOf pat s) (length s)
 
 abbrev pub bang : List ℕ
 bang = 33 ∷ []

@@ -1,4 +1,4 @@
-// The Shipped reading of a plural rule: a port of plurals.rs, `Ast::parse`, `index_of`, `parse_parens` and the levels.
+// The Shipped reading of a plural rule: a port of plurals.rs, `Ast::parse`, `parse_parens` and the levels; `scan` finds where to cut.
 // A piece is a part of the text; its nodes are appended to lent arrays, and `Box<Ast>` is a place in them.
 ghost use mathlib.Core.Path.{_≡_};
 ghost use Prim.Native.Nat.{_+_, _-_, _≤_, _<_};
@@ -7,59 +7,10 @@ ghost use Rattle.rules.specs.Pool.{pool};
 ghost use Rattle.rules.specs.Store.{push};
 ghost use Rattle.rules.specs.Reads.{Answered};
 ghost use Rattle.rules.specs.declared.Nodes.the-variants as Nodes;
-ghost use Rattle.shipped.specs.Scan.{indexOf};
-ghost use Rattle.shipped.specs.Shipped.{rows, readN, readInt, colon, readNot, choose, cutAt, level, parens, shipped};
-ghost use Rattle.shipped.specs.Promise.{Gives, Cuts, rowAt, rowOf, codeOf};
-
-mod scan; // scan.rt: what is looked for in a text
-
-// The levels in their order: two signs for each, how many of them count, and the code of the node.
-const SIGNS: [u8; 20] = *b"&&||?\0>=>\0<=<\0==!=%\0";
-
-const WIDTHS: [usize; 10] = [2, 2, 1, 2, 1, 2, 1, 2, 2, 1];
-
-const CODES: [u8; 10] = [10, 11, 3, 6, 8, 7, 9, 4, 5, 12];
-
-// How many signs the pattern of a row has.
-fn width_of(row: usize) -> usize
-    requires { ⌜ row < 10 ⌝ }
-    ensures { λ r. ⌜ r ≡ length (rowAt row .pattern) ⌝ }
-{
-    WIDTHS[row]
-}
-
-// The code of the node that a row makes.
-fn code_of(row: usize) -> u8
-    requires { ⌜ row < 10 ⌝ }
-    ensures { λ r. ⌜ r ≡ codeOf (rowAt row .kind) ⌝ }
-{
-    CODES[row]
-}
-
-// Where a row's pattern stands, or the text's length.
-fn place_of(s: &[u8], row: usize) -> usize
-    requires { ⌜ row < 10 ⌝ }
-    ensures { λ r. ⌜ r ≡ indexOf (rowAt row .pattern) (now (s .entry)) ⌝ }
-{
-    let signs = SIGNS;
-    let start = 2 * row;
-    let end = start + width_of(row);
-    scan::index_of(s, &signs[start..end])
-}
-
-// The first row whose pattern stands in the text, or the number of rows.
-fn row_of(s: &[u8]) -> usize
-    ensures { λ r. ⌜ r ≡ rowOf rows (now (s .entry)) ⌝ }
-{
-    let mut row = 0;
-    while row < 10 {
-        if place_of(s, row) < s.len() {
-            return row;
-        }
-        row += 1;
-    }
-    row
-}
+ghost use Rattle.scan.specs.Scan.{indexOf};
+ghost use Rattle.scan.specs.Levels.{rows, rowAt};
+ghost use Rattle.shipped.specs.Shipped.{readN, readInt, colon, readNot, choose, cutAt, level, parens, shipped};
+ghost use Rattle.shipped.specs.Promise.{Gives, Cuts};
 
 // n, and nothing else.
 fn parse_n(
@@ -223,8 +174,8 @@ fn parse_row(
         (pool (now (codes .entry)) (now (places .entry)) (now (values .entry)))
         (pool (now (codes .exit)) (now (places .exit)) (now (values .exit))) r ⌝ }
 {
-    let i = place_of(s, row);
-    let code = code_of(row);
+    let i = scan::place_of(s, row);
+    let code = scan::code_of(row);
     if code == 3 {
         return parse_ternary(s, i, codes, places, values, k);
     }
@@ -232,7 +183,7 @@ fn parse_row(
     let rules::Nodes::Read(m) = left else {
         return rules::Nodes::NoReading;
     };
-    let start = i + width_of(row);
+    let start = i + scan::width_of(row);
     let right = parse(&s[start..], codes, places, values, m);
     let rules::Nodes::Read(e) = right else {
         return rules::Nodes::NoReading;
@@ -253,7 +204,7 @@ fn parse_level(
         (pool (now (codes .entry)) (now (places .entry)) (now (values .entry)))
         (pool (now (codes .exit)) (now (places .exit)) (now (values .exit))) r ⌝ }
 {
-    let row = row_of(s);
+    let row = scan::row_of(s);
     if row < 10 {
         return parse_row(s, row, codes, places, values, k);
     }

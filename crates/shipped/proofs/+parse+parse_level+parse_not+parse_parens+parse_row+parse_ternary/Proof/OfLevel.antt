@@ -1,11 +1,11 @@
--- `parse_level`: the first row with a match says how the text is cut, and without one it goes to `parse_not` (Table).
+-- `parse_level`: the first row with a match says how the text is cut, and without one it goes to `parse_not` (Levels).
 use Prim.Native.Nat.{ℕ}
 use native.Mathlib.Omega.{arith}
 use borrow.Author.Needs.{needs}
 use Rattle.shipped.specs.Shipped.{readNot, shipped}
 use Rattle.shipped.proofs.Steps.{trimmed-le, through}
 use Rattle.shipped.proofs.Written.{as-read}
-use Rattle.shipped.proofs.Table.{match-in, level-row, level-rest}
+use Rattle.shipped.proofs.Levels.{match-in, level-row, level-rest}
 use Rattle.shipped.proofs.+parse+parse_level+parse_not+parse_parens+parse_row+parse_ternary.Proof.Measure.{R-parse-level, parse-level-at, St-parse-level}
 use Rattle.shipped.proofs.parse_level.Reads as parse-level
 use Rattle.shipped.proofs.+parse+parse_level+parse_not+parse_parens+parse_row+parse_ternary.Lts-parse_level as lts

@@ -1,0 +1,3 @@
+pub mod Scanned
+pub mod Table
+pub mod Unique
