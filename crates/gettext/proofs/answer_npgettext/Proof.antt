@@ -2,8 +2,8 @@
 use mathlib.Core.Path.{ap, _∙_}
 use mathlib.Core.Bool.{true}
 use Rattle.keys.specs.Keys.{keyOf}
-use Rattle.lookup.specs.Lookup.{plural}
 use Rattle.keys.specs.declared.Tables.{Tables}
+use Rattle.lookup.specs.Lookup.{plural}
 use Rattle.gettext.specs.Catalog.{poolOf}
 use borrow.Author.Needs.{needs}
 use Rattle.gettext.proofs.answer_npgettext.Statement.{statement}

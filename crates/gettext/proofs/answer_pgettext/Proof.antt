@@ -2,8 +2,8 @@
 use mathlib.Core.Path.{ap, _∙_}
 use mathlib.Core.Bool.{true}
 use Rattle.keys.specs.Keys.{keyOf}
-use Rattle.lookup.specs.Lookup.{singular}
 use Rattle.keys.specs.declared.Tables.{Tables}
+use Rattle.lookup.specs.Lookup.{singular}
 use borrow.Author.Needs.{needs}
 use Rattle.gettext.proofs.answer_pgettext.Statement.{statement}
 use Rattle.gettext.proofs.answer_pgettext.Tie as tie
