@@ -19,9 +19,10 @@ use Rattle.container.specs.declared.Options.{Options}
 use Rattle.container.specs.declared.Loaded.{Loaded}
 use Rattle.container.specs.declared.Outcome.the-variants as outcome
 use Rattle.container.proofs.Accepted.{accepted-whole}
-use Rattle.lookup.specs.Lookup.{lastWith, plural, number}
+use Rattle.keys.specs.Keys.{lastWith}
+use Rattle.keys.specs.declared.Hit.the-variants as hit
+use Rattle.lookup.specs.Lookup.{plural, number}
 use Rattle.lookup.specs.Text.{IsPart, Says, IsText}
-use Rattle.lookup.specs.declared.Hit.the-variants as hit
 use Rattle.lookup.specs.declared.Answer as answers
 use Rattle.lookup.specs.declared.Answer.the-variants.{Segment}
 use Rattle.lookup.proofs.Rated.{Names, rated-lookup}

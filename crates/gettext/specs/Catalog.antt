@@ -1,7 +1,7 @@
 -- What a record says to a lookup. Document 01, "The record": file length, byte order, count, table offsets, and the rule as nodes.
 use Rattle.rules.specs.Pool.{Pool, pool}
 use Rattle.container.specs.declared.Record.{Record}
-use Rattle.lookup.specs.declared.Tables.{Tables}
+use Rattle.keys.specs.declared.Tables.{Tables}
 
 abbrev pub tablesOf : Record → Tables
 tablesOf c = record {

@@ -1,14 +1,15 @@
 // The four lookups in a catalog: the file, lent, and the record that loading returned. A port of lib.rs. Each is two functions: one
 // says by value which text answers, and why; the other hands back that text, a part of the file or of the caller's own.
 use container::Record;
+use keys::Tables;
 use lookup::Answer;
-use lookup::Tables;
 use rules::Fit;
 use rules::Rated;
 ghost use mathlib.Core.Path.{_≡_};
 ghost use mathlib.Core.Bool.{true};
 ghost use Rattle.rules.specs.Answer.{ratedOf, fitOf};
-ghost use Rattle.lookup.specs.Lookup.{keyOf, singular, plural};
+ghost use Rattle.keys.specs.Keys.{keyOf};
+ghost use Rattle.lookup.specs.Lookup.{singular, plural};
 ghost use Rattle.lookup.specs.Text.{IsText};
 ghost use Rattle.gettext.specs.Catalog.{tablesOf, poolOf};
 

@@ -15,8 +15,8 @@ use Rattle.utf8.proofs.Texts.{empty-right}
 use Rattle.rules.specs.Pool.{Pool}
 use Rattle.rules.specs.Value.{truth}
 use Rattle.messages.specs.declared.Error.the-variants as error
+use Rattle.keys.specs.declared.Tables as tables
 use Rattle.lookup.specs.Lookup.{singular, plural}
-use Rattle.lookup.specs.declared.Tables as tables
 use Rattle.lookup.specs.declared.Answer as answer
 use Rattle.lookup.specs.declared.Answer.the-variants as answers
 use Rattle.lookup.proofs.Found.{Found, singular-found, plural-found, segment-told}

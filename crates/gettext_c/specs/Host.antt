@@ -20,9 +20,9 @@ use Rattle.container.specs.declared.Record as below-record
 use Rattle.container.specs.declared.Loaded as below-loaded
 use Rattle.container.specs.Catalog as catalog
 use Rattle.container.specs.Promise as promise
+use Rattle.keys.specs.declared.Tables as tables
 use Rattle.lookup.specs.Lookup as lookup
 use Rattle.lookup.specs.declared.Why.the-variants.{ZeroModulus, BadRecord}
-use Rattle.lookup.specs.declared.Tables as tables
 use Rattle.lookup.specs.declared.Answer as answer
 use Rattle.lookup.specs.declared.Answer.the-variants.{Segment, Id, PluralId}
 use Rattle.gettext_c.specs.declared.Tables.{Tables}

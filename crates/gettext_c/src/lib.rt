@@ -15,8 +15,9 @@ ghost use Rattle.rules.specs.Pool.{pool};
 ghost use Rattle.rules.specs.Value.{truth};
 ghost use Rattle.rules.specs.Answer.{resolvedOf, ratedOf, fitOf};
 ghost use Rattle.messages.specs.Messages as messages;
+ghost use Rattle.keys.specs.Keys.{keyOf};
 ghost use Rattle.lookup.specs.Lookup as lookup;
-ghost use Rattle.lookup.specs.Lookup.{keyOf, singular, plural};
+ghost use Rattle.lookup.specs.Lookup.{singular, plural};
 ghost use Rattle.container.specs.Catalog.{load};
 ghost use Rattle.gettext_c.specs.Host.{isSet, readingOf, optionsOf, outcomeNumber, recordOf, IsEmpty, Loads, tablesIn, answerOf, fallback, ratingOf, fitsOf, valueOf};
 
@@ -172,10 +173,10 @@ fn record_of(r: container::Record) -> Record
     }
 }
 
-fn tables_in(t: Tables) -> lookup::Tables
+fn tables_in(t: Tables) -> keys::Tables
     ensures { λ r. ⌜ r ≡ tablesIn t ⌝ }
 {
-    lookup::Tables {
+    keys::Tables {
         length: t.length,
         big: is_set(t.big),
         count: t.count,

@@ -12,10 +12,11 @@ use Rattle.rules.specs.declared.Resolved.the-variants as resolved
 use Rattle.layout.specs.Mo.{segment}
 use Rattle.layout.specs.declared.Stretch.{Stretch}
 use Rattle.layout.specs.declared.Stretch.the-variants as stretch
-use Rattle.lookup.specs.Lookup.{lastWith, segmentOr, formOr, singular, fallback, byForm, plural}
-use Rattle.lookup.specs.declared.Tables.{Tables}
-use Rattle.lookup.specs.declared.Hit.{Hit}
-use Rattle.lookup.specs.declared.Hit.the-variants as hit
+use Rattle.keys.specs.Keys.{lastWith}
+use Rattle.keys.specs.declared.Tables.{Tables}
+use Rattle.keys.specs.declared.Hit.{Hit}
+use Rattle.keys.specs.declared.Hit.the-variants as hit
+use Rattle.lookup.specs.Lookup.{segmentOr, formOr, singular, fallback, byForm, plural}
 use Rattle.lookup.specs.declared.Why.{Why}
 use Rattle.lookup.specs.declared.Why.the-variants.{Absent, BadRecord}
 use Rattle.lookup.specs.declared.Answer.{Answer}

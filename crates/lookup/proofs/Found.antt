@@ -18,10 +18,11 @@ use Rattle.layout.specs.declared.Entry.the-variants as entries
 use Rattle.layout.specs.declared.Stretch.{Stretch}
 use Rattle.layout.specs.declared.Stretch.the-variants as stretch
 use Rattle.layout.proofs.Forms.{segment-holds, segment-is}
-use Rattle.lookup.specs.Lookup.{isKey, hitOf, lastIn, entryOf, lastWith, segmentOr, formOr, singular, fallback, byForm, plural}
-use Rattle.lookup.specs.declared.Tables.{Tables}
-use Rattle.lookup.specs.declared.Hit.{Hit}
-use Rattle.lookup.specs.declared.Hit.the-variants as hit
+use Rattle.keys.specs.Keys.{isKey, hitOf, lastIn, entryOf, lastWith}
+use Rattle.keys.specs.declared.Tables.{Tables}
+use Rattle.keys.specs.declared.Hit.{Hit}
+use Rattle.keys.specs.declared.Hit.the-variants as hit
+use Rattle.lookup.specs.Lookup.{segmentOr, formOr, singular, fallback, byForm, plural}
 use Rattle.lookup.specs.declared.Why.{Why}
 use Rattle.lookup.specs.declared.Why.the-variants.{Absent, ZeroModulus, BadRecord}
 use Rattle.lookup.specs.declared.Answer.{Answer}

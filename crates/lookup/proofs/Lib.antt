@@ -1,6 +1,3 @@
-pub mod Keys
-pub mod Entries
-pub mod Scan
 pub mod Answers
 pub mod Said
 pub mod Rated

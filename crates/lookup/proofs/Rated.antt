@@ -18,13 +18,14 @@ use Rattle.layout.specs.declared.Stretch.{Stretch}
 use Rattle.layout.specs.declared.Stretch.the-variants as stretch
 use Rattle.layout.proofs.Cells.{string-told}
 use Rattle.layout.proofs.Forms.{segment-holds, segment-is}
-use Rattle.lookup.specs.Lookup.{isKey, hitOf, lastIn, entryOf, lastWith, formOr, segmentOr, fallback, plural}
-use Rattle.lookup.specs.declared.Tables.{Tables}
-use Rattle.lookup.specs.declared.Hit.the-variants as hit
+use Rattle.keys.specs.Keys.{isKey, hitOf, lastIn, entryOf, lastWith}
+use Rattle.keys.specs.declared.Tables.{Tables}
+use Rattle.keys.specs.declared.Hit.the-variants as hit
+use Rattle.keys.proofs.Entries.{no-entry}
+use Rattle.lookup.specs.Lookup.{formOr, segmentOr, fallback, plural}
 use Rattle.lookup.specs.declared.Why.the-variants.{Absent}
 use Rattle.lookup.specs.declared.Answer.{Answer}
 use Rattle.lookup.specs.declared.Answer.the-variants.{Segment}
-use Rattle.lookup.proofs.Entries.{no-entry}
 use Rattle.lookup.proofs.Answers.{by-rule}
 
 -- an entry's translation lies in the file

@@ -1,3 +1,2 @@
 pub mod Lookup
-pub mod Promise
 pub mod Text

@@ -1,23 +1,20 @@
--- What a lookup answers. Document 01, "Numbers returned", "Loading, in order" (keys; the last entry with an equal key counts) and
--- "The record".
-use Prim.Native.Nat.{ℕ, zero, suc}
-use mathlib.Core.Bool.{Bool, true, false}
-use mathlib.Core.List.{List, _∷_, _++_}
-use lib.ListN.{length, take, drop}
+-- What a lookup answers. Document 01, "Numbers returned" and "The record"; the entry with the key is that of `keys`.
+use Prim.Native.Nat.{ℕ}
+use mathlib.Core.Bool.{true, false}
+use mathlib.Core.List.{List}
+use lib.ListN.{length}
 use lib.Dec.{eqb}
-use Rattle.text.specs.Bytes.{same}
 use Rattle.rules.specs.Pool.{Pool}
 use Rattle.rules.specs.Answer.{resolvedOf}
 use Rattle.rules.specs.declared.Resolved.{Resolved}
 use Rattle.rules.specs.declared.Resolved.the-variants as resolved
-use Rattle.layout.specs.Mo.{entry, segment}
-use Rattle.layout.specs.declared.Entry.{Entry}
-use Rattle.layout.specs.declared.Entry.the-variants as entries
+use Rattle.layout.specs.Mo.{segment}
 use Rattle.layout.specs.declared.Stretch.{Stretch}
 use Rattle.layout.specs.declared.Stretch.the-variants as stretch
-use Rattle.lookup.specs.declared.Tables.{Tables}
-use Rattle.lookup.specs.declared.Hit.{Hit}
-use Rattle.lookup.specs.declared.Hit.the-variants as hit
+use Rattle.keys.specs.Keys.{lastWith}
+use Rattle.keys.specs.declared.Tables.{Tables}
+use Rattle.keys.specs.declared.Hit.{Hit}
+use Rattle.keys.specs.declared.Hit.the-variants as hit
 use Rattle.lookup.specs.declared.Why.{Why}
 use Rattle.lookup.specs.declared.Why.the-variants.{Absent, ZeroModulus, BadRecord}
 use Rattle.lookup.specs.declared.Answer.{Answer}
@@ -33,33 +30,6 @@ abbrev pub number : Answer → ℕ
 number (Segment i form start len) = 0
 number (Id why) = numberOf why
 number (PluralId why) = numberOf why
-
--- a key is context, byte 4 and id, or the id only
-abbrev pub keyOf : Bool → List ℕ → List ℕ → List ℕ
-keyOf true context id = context ++ 4 ∷ id
-keyOf false context id = id
-
--- an entry of the file s has this key
-abbrev pub isKey : List ℕ → List ℕ → Entry → Bool
-isKey s key (entries.At at n start len) = same key (take n (drop at s))
-isKey s key entries.NoEntry = false
-
-abbrev pub hitOf : ℕ → Entry → Hit
-hitOf i (entries.At at n start len) = hit.At i start len
-hitOf i entries.NoEntry = hit.Missing
-
--- of the entries below k, the last that passes the test
-unfoldable pub lastIn : (ℕ → Entry) → (Entry → Bool) → ℕ → Hit
-lastIn e f zero = hit.Missing
-lastIn e f (suc i) = elim (f (e i)) [ true ↦ hitOf i (e i) | false ↦ lastIn e f i ]
-
-abbrev pub entryOf : List ℕ → Tables → ℕ → Entry
-entryOf s t i = entry (t .big) s (t .originals) (t .translations) i
-
--- the last entry with the key
-unfoldable pub lastWith : List ℕ → Tables → List ℕ → Hit
-unfolding lastIn
-lastWith s t key = lastIn (entryOf s t) (isKey s key) (t .count)
 
 -- the segment that a form names, or else the fallback
 abbrev pub segmentOr : Answer → ℕ → ℕ → Stretch → Answer

@@ -33,8 +33,9 @@ use Rattle.container.specs.Catalog.{header, entryStep, entriesFrom, load}
 use Rattle.container.specs.Promise.{Loads}
 use Rattle.container.specs.declared.Loaded as loading
 use Rattle.container.specs.declared.Outcome.the-variants.{Loaded}
+use Rattle.keys.specs.Keys.{lastIn, lastWith}
 use Rattle.lookup.specs.Lookup as lookup
-use Rattle.lookup.specs.Lookup.{lastIn, lastWith, singular}
+use Rattle.lookup.specs.Lookup.{singular}
 use Rattle.lookup.specs.Text.{IsPart, partOr, IsText}
 use Rattle.lookup.specs.declared.Answer.{Answer}
 use Rattle.lookup.specs.declared.Answer.the-variants.{Segment}

@@ -33,9 +33,10 @@ use Rattle.layout.specs.Mo.{word, string, contextEnd, idStart, idEnd, context, 
 use Rattle.messages.specs.Messages.{numberOf, orderOf, headOf, originalOf, readAt}
 use Rattle.container.specs.Catalog.{header, entryStep, entriesFrom, Answer, accepted, refused, load}
 use Rattle.container.specs.declared.Options.{Options}
+use Rattle.keys.specs.Keys.{lastIn, lastWith}
+use Rattle.keys.specs.declared.Tables.{Tables}
 use Rattle.lookup.specs.Lookup as lookup
-use Rattle.lookup.specs.Lookup.{lastIn, lastWith, singular}
-use Rattle.lookup.specs.declared.Tables.{Tables}
+use Rattle.lookup.specs.Lookup.{singular}
 use Rattle.lookup.specs.declared.Answer as answers
 use Rattle.lookup.specs.declared.Answer.the-variants.{Segment, Id, PluralId}
 

@@ -1,7 +1,7 @@
 -- What `lookup` finds by the record's tables. Assumes nothing.
 use mathlib.Core.Path.{ap, _∙_}
+use Rattle.keys.specs.declared.Tables.{Tables}
 use Rattle.lookup.specs.Lookup.{singular}
-use Rattle.lookup.specs.declared.Tables.{Tables}
 use borrow.Author.Needs.{needs}
 use Rattle.gettext.proofs.answer_gettext.Statement.{statement}
 use Rattle.gettext.proofs.answer_gettext.Tie as tie

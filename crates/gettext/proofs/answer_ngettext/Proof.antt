@@ -1,7 +1,7 @@
 -- What `lookup` finds by the record's tables and its rule. Assumes nothing.
 use mathlib.Core.Path.{ap, _∙_}
+use Rattle.keys.specs.declared.Tables.{Tables}
 use Rattle.lookup.specs.Lookup.{plural}
-use Rattle.lookup.specs.declared.Tables.{Tables}
 use Rattle.gettext.specs.Catalog.{poolOf}
 use borrow.Author.Needs.{needs}
 use Rattle.gettext.proofs.answer_ngettext.Statement.{statement}

@@ -1,8 +1,9 @@
 -- What `lookup` finds by the record's tables and its rule. Assumes nothing.
 use mathlib.Core.Path.{ap, _∙_}
 use mathlib.Core.Bool.{true}
-use Rattle.lookup.specs.Lookup.{keyOf, plural}
-use Rattle.lookup.specs.declared.Tables.{Tables}
+use Rattle.keys.specs.Keys.{keyOf}
+use Rattle.keys.specs.declared.Tables.{Tables}
+use Rattle.lookup.specs.Lookup.{plural}
 use Rattle.gettext.specs.Catalog.{poolOf}
 use borrow.Author.Needs.{needs}
 use Rattle.gettext.proofs.answer_npgettext.Statement.{statement}

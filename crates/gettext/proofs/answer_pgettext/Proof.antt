@@ -1,8 +1,9 @@
 -- What `lookup` finds by the record's tables. Assumes nothing.
 use mathlib.Core.Path.{ap, _∙_}
 use mathlib.Core.Bool.{true}
-use Rattle.lookup.specs.Lookup.{keyOf, singular}
-use Rattle.lookup.specs.declared.Tables.{Tables}
+use Rattle.keys.specs.Keys.{keyOf}
+use Rattle.keys.specs.declared.Tables.{Tables}
+use Rattle.lookup.specs.Lookup.{singular}
 use borrow.Author.Needs.{needs}
 use Rattle.gettext.proofs.answer_pgettext.Statement.{statement}
 use Rattle.gettext.proofs.answer_pgettext.Tie as tie

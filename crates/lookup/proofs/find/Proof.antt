@@ -1,5 +1,5 @@
 -- A file of the record's length is sought in, and form 0 answers. Assumes nothing.
-use Rattle.lookup.specs.Lookup.{keyOf}
+use Rattle.keys.specs.Keys.{keyOf}
 use Rattle.lookup.proofs.Answers.{stale, found}
 use borrow.Author.Needs.{needs}
 use Rattle.lookup.proofs.find.Statement.{statement}

@@ -1,7 +1,7 @@
 -- The rule's value decides; a form is sought in the last entry with the key. Assumes nothing.
 use mathlib.Core.Path.{sym}
 use Rattle.rules.specs.Pool.{pool}
-use Rattle.lookup.specs.Lookup.{keyOf}
+use Rattle.keys.specs.Keys.{keyOf}
 use Rattle.lookup.proofs.Answers.{stale-plural, by-rule, form-found}
 use borrow.Author.Needs.{needs}
 use Rattle.lookup.proofs.nfind.Statement.{statement}

@@ -1,9 +1,9 @@
 -- Each return compares the sum of the lengths without taking it first. Assumes nothing.
 use borrow.Author.Tests.{not-true, not-false}
-use Rattle.lookup.proofs.Keys.{id-long, id-only, both-long, both-fit}
+use Rattle.keys.proofs.Keys.{id-long, id-only, both-long, both-fit}
 use borrow.Author.Needs.{needs}
-use Rattle.lookup.proofs.size_of.Statement.{statement}
-use Rattle.lookup.proofs.size_of.Tie as tie
+use Rattle.keys.proofs.size_of.Statement.{statement}
+use Rattle.keys.proofs.size_of.Tie as tie
 
 returns : tie.Need-returns
 returns c = id-long _ (c .before .args .context .now) (c .before .args .id .now) (c .before .args .given) (c .if1 .taken)

@@ -15,12 +15,12 @@ use Rattle.layout.specs.declared.Entry.{Entry}
 use Rattle.layout.specs.declared.Entry.the-variants as entries
 use Rattle.layout.specs.declared.Stretch.the-variants as stretch
 use Rattle.layout.proofs.Cells.{no-cell}
-use Rattle.lookup.specs.Lookup.{isKey, hitOf, lastIn, entryOf, lastWith}
-use Rattle.lookup.specs.Promise.{hitIf, ScanFrom}
-use Rattle.lookup.specs.declared.Tables.{Tables}
-use Rattle.lookup.specs.declared.Hit.{Hit}
-use Rattle.lookup.specs.declared.Hit.the-variants as hit
-use Rattle.lookup.proofs.Entries.{shorter, no-string}
+use Rattle.keys.specs.Keys.{isKey, hitOf, lastIn, entryOf, lastWith}
+use Rattle.keys.specs.Promise.{hitIf, ScanFrom}
+use Rattle.keys.specs.declared.Tables.{Tables}
+use Rattle.keys.specs.declared.Hit.{Hit}
+use Rattle.keys.specs.declared.Hit.the-variants as hit
+use Rattle.keys.proofs.Entries.{shorter, no-string}
 
 module _ (e : ℕ → Entry) (f : Entry → Bool) where
   -- an entry that passes ends the search, and one that does not is passed over

@@ -1,13 +1,13 @@
 -- What the quick test rules out has not the key; else the entry's key is compared. Assumes nothing.
 use mathlib.Core.Path.{sym, _∙_}
 use borrow.Author.Tests.{not-true}
-use Rattle.lookup.specs.Lookup.{keyOf}
-use Rattle.lookup.proofs.Entries.{inside}
-use Rattle.lookup.proofs.Scan.{hit-false, told-none, told-key, told-other}
+use Rattle.keys.specs.Keys.{keyOf}
+use Rattle.keys.proofs.Entries.{inside}
+use Rattle.keys.proofs.Scan.{hit-false, told-none, told-key, told-other}
 use borrow.Author.Needs.{needs}
 use native.Mathlib.Omega.{arith}
-use Rattle.lookup.proofs.hit_at.Statement.{statement}
-use Rattle.lookup.proofs.hit_at.Tie as tie
+use Rattle.keys.proofs.hit_at.Statement.{statement}
+use Rattle.keys.proofs.hit_at.Tie as tie
 
 may-be-requires : tie.Need-may-be-requires
 may-be-requires c κs = search needs

@@ -1,8 +1,8 @@
 -- A cell of eight bytes for each index fits so often between the table's start and the file's end. Assumes nothing.
-use Rattle.lookup.proofs.Scan.{from-nothing, from-most, from-count}
+use Rattle.keys.proofs.Scan.{from-nothing, from-most, from-count}
 use borrow.Author.Needs.{needs}
-use Rattle.lookup.proofs.scan_from.Statement.{statement}
-use Rattle.lookup.proofs.scan_from.Tie as tie
+use Rattle.keys.proofs.scan_from.Statement.{statement}
+use Rattle.keys.proofs.scan_from.Tie as tie
 
 returns : tie.Need-returns
 returns c = from-nothing _ _ (c .if1 .taken)

@@ -4,13 +4,13 @@ use mathlib.Core.Path.{_≡_}
 use mathlib.Core.Bool.{Bool, true, false}
 use mathlib.Core.List.{List}
 use lib.ListN.{length}
-use Rattle.lookup.specs.Lookup.{isKey, entryOf, hitOf}
+use Rattle.keys.specs.Keys.{isKey, entryOf, hitOf}
 use Rattle.layout.specs.Mo.{hasCell}
-use Rattle.lookup.specs.declared.Hit.{Hit}
-use Rattle.lookup.specs.declared.Hit.the-variants as hit
-use Rattle.lookup.specs.declared.Tables.{Tables}
-use Rattle.lookup.specs.declared.Size.{Size}
-use Rattle.lookup.specs.declared.Size.the-variants.{Is, TooLong}
+use Rattle.keys.specs.declared.Hit.{Hit}
+use Rattle.keys.specs.declared.Hit.the-variants as hit
+use Rattle.keys.specs.declared.Tables.{Tables}
+use Rattle.keys.specs.declared.Size.{Size}
+use Rattle.keys.specs.declared.Size.the-variants.{Is, TooLong}
 
 -- the key's length, or that no key of a file of that size can be so long
 abbrev pub Sizes : ℕ → List ℕ → Size → Type 0

@@ -1,12 +1,12 @@
 -- The loop's invariant: the entries from i on have not the key. The measure is i. Assumes nothing.
 use mathlib.Core.Path.{_≡_}
 use lib.ListN.{length}
-use Rattle.lookup.specs.Lookup.{keyOf}
-use Rattle.lookup.proofs.Keys.{sized-is, sized-long}
-use Rattle.lookup.proofs.Scan.{too-long, Passed, passed-first, passed-end, passed-hit, passed-miss}
+use Rattle.keys.specs.Keys.{keyOf}
+use Rattle.keys.proofs.Keys.{sized-is, sized-long}
+use Rattle.keys.proofs.Scan.{too-long, Passed, passed-first, passed-end, passed-hit, passed-miss}
 use borrow.Author.Needs.{needs}
-use Rattle.lookup.proofs.last_hit.Statement.{statement}
-use Rattle.lookup.proofs.last_hit.Tie as tie
+use Rattle.keys.proofs.last_hit.Statement.{statement}
+use Rattle.keys.proofs.last_hit.Tie as tie
 
 abbrev Inv-loop : tie.InvT-loop
 Inv-loop file t given context id n i₀ i = (n ≡ length (keyOf given context id)) × Passed file t (keyOf given context id) i

@@ -1,11 +1,11 @@
 -- An entry with a key of n bytes has an original at least so long, with a NUL after them. Assumes nothing.
 use Rattle.layout.proofs.Cells.{string-told}
 use mathlib.Core.Path.{sym, _∙_}
-use Rattle.lookup.proofs.Entries.{may-not-outside, may-not-short, may-by-nul}
+use Rattle.keys.proofs.Entries.{may-not-outside, may-not-short, may-by-nul}
 use borrow.Author.Needs.{needs}
 use native.Mathlib.Omega.{arith}
-use Rattle.lookup.proofs.may_be.Statement.{statement}
-use Rattle.lookup.proofs.may_be.Tie as tie
+use Rattle.keys.proofs.may_be.Statement.{statement}
+use Rattle.keys.proofs.may_be.Tie as tie
 
 string-at-requires : tie.Need-string-at-requires
 string-at-requires c κs = search needs

@@ -12,10 +12,10 @@ use Rattle.text.specs.Bytes.{same}
 use Rattle.text.proofs.Tests.{and-none, and-assoc}
 use Rattle.text.proofs.Walk.{part-from}
 use Rattle.text.proofs.Same.{other-length}
-use Rattle.lookup.specs.Lookup.{keyOf}
-use Rattle.lookup.specs.Promise.{Sized}
-use Rattle.lookup.specs.declared.Size.{Size}
-use Rattle.lookup.specs.declared.Size.the-variants.{Is, TooLong}
+use Rattle.keys.specs.Keys.{keyOf}
+use Rattle.keys.specs.Promise.{Sized}
+use Rattle.keys.specs.declared.Size.{Size}
+use Rattle.keys.specs.declared.Size.the-variants.{Is, TooLong}
 
 same-split : (c i key : List ℕ) → length c < length key
     → same (c ++ 4 ∷ i) key ≡ (same c (take (length c) key) && (eqb 4 (getD key (length c) 0) && same i (drop (length c + 1) key)))

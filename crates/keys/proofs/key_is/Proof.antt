@@ -4,9 +4,9 @@ use native.Mathlib.Omega.{arith}
 use mathlib.Core.Path.{sym}
 use lib.Seq.{length-take-le}
 use borrow.Author.Tests.{not-true, not-false}
-use Rattle.lookup.proofs.Keys.{too-short, not-four, other-context, by-id}
-use Rattle.lookup.proofs.key_is.Statement.{statement}
-use Rattle.lookup.proofs.key_is.Tie as tie
+use Rattle.keys.proofs.Keys.{too-short, not-four, other-context, by-id}
+use Rattle.keys.proofs.key_is.Statement.{statement}
+use Rattle.keys.proofs.key_is.Tie as tie
 
 equal-requires : tie.Need-equal-requires
 equal-requires c κs = search needs

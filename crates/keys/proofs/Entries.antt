@@ -19,10 +19,10 @@ use Rattle.layout.specs.declared.Stretch.{Stretch}
 use Rattle.layout.specs.declared.Stretch.the-variants as stretch
 use Rattle.layout.proofs.Cells.{string-told}
 use Rattle.layout.proofs.Entries.{original-length}
-use Rattle.lookup.specs.Lookup.{isKey, entryOf}
-use Rattle.lookup.specs.Promise.{MayBe}
-use Rattle.lookup.specs.declared.Tables.{Tables}
-use Rattle.lookup.specs.declared.Hit.the-variants as hit
+use Rattle.keys.specs.Keys.{isKey, entryOf}
+use Rattle.keys.specs.Promise.{MayBe}
+use Rattle.keys.specs.declared.Tables.{Tables}
+use Rattle.keys.specs.declared.Hit.the-variants as hit
 
 -- an original whose id ends has a NUL there
 id-nul : (o : List ℕ) → ended o ≡ true → getD o (idEnd o) 0 ≡ 0

@@ -1,0 +1,4 @@
+pub mod Keys
+pub mod Entries
+pub mod Scan
+pub mod Unique
