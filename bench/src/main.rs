@@ -204,7 +204,11 @@ fn utf8(rows: &mut Vec<Row>, files: &[Vec<u8>]) {
 fn table(rows: &[Row], most: &BTreeMap<&str, usize>) -> String {
     let mut out = String::from("| what | unit | ours | beside | theirs | times as good |\n|---|---|---:|---|---:|---:|\n");
     for r in rows {
-        let ratio = if r.ratio.is_finite() { format!("{:.2}", r.ratio) } else { "none against some".into() };
+        let ratio = match r.ratio {
+            some if !some.is_finite() => "none against some".into(),
+            some if some < 0.1 => format!("{some:.4}"),
+            some => format!("{some:.2}"),
+        };
         let _ = writeln!(out, "| {}: {} | {} | {:.0} | {} | {:.0} | {ratio} |", r.group, r.case, r.unit, r.ours, r.beside, r.other);
     }
     let list: Vec<String> = most.iter().map(|(name, n)| format!("{name} {n}")).collect();
