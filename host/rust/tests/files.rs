@@ -511,3 +511,16 @@ fn a_catalog_is_data() {
     let read = std::thread::scope(|s| s.spawn(|| catalog.gettext("a")).join().unwrap());
     assert_eq!(read, "b");
 }
+
+/// README's warning: the forms of the Russian rule in the two readings.
+#[test]
+fn russian_forms_in_both_readings() {
+    const RULE: &str = "n%10==1 && n%100!=11 ? 0 : n%10>=2 && n%10<=4 && (n%100<10 || n%100>=20) ? 1 : 2";
+    let counts = [0, 1, 2, 4, 5, 11, 21, 22, 25, 101];
+    let forms = |reading| {
+        let catalog = ParseOptions::new().force_plural(RULE).reading(reading).parse(&F).unwrap();
+        counts.map(|n| catalog.form(n).unwrap())
+    };
+    assert_eq!(forms(Reading::Shipped), [0; 10]);
+    assert_eq!(forms(Reading::Standard), [2, 0, 1, 1, 2, 2, 0, 1, 2, 0]);
+}
