@@ -2,6 +2,7 @@
 // static library, and every answer is compared. The last line of each part is its summary; the exit status is 1 where they differ.
 mod compare;
 mod make;
+mod named;
 mod rattle;
 mod rng;
 mod sample;

@@ -13,6 +13,7 @@
 // The origin is c (the crate), d (document 01) or s (Standard).
 use crate::compare::{count, key, quietly, rule_file, theirs, trim_six, Theirs};
 use crate::make::{self, Entry, COUNTS, KNOWN};
+use crate::named;
 use crate::rattle::{Lent, Ours};
 use crate::rng::Rng;
 use std::collections::HashSet;
@@ -214,7 +215,7 @@ impl Sample {
                 }));
             }
         } else {
-            if !rule.is_ascii() || rule.iter().any(|b| [0, 10, b';'].contains(b)) {
+            if !in_header(rule) {
                 return None;
             }
             rule_file(rule, 2, &mut file);
@@ -237,6 +238,11 @@ impl Sample {
         let number = body[3] as u32;
         self.push(&body).then_some(number)
     }
+}
+
+// Whether a header can hold the rule, so that the crate reads it.
+fn in_header(rule: &[u8]) -> bool {
+    rule.is_ascii() && !rule.iter().any(|b| [0, 10, b';'].contains(b))
 }
 
 // A catalog such as a translator makes.
@@ -295,32 +301,14 @@ pub fn write() -> Vec<u8> {
     for rule in KNOWN {
         s.rule(rule.as_bytes(), false);
     }
-    for rule in [
-        "n%10%3",
-        "n>1 == 0",
-        "n==1 && 1 ? 2 : 3",
-        "(n1",
-        "0 ? n?1:2 : 3",
-        ":n?n",
-        "n)&&(n",
-        ">>=",
-        "!!=1",
-        "n!!=1",
-        "(n)(1)",
-        "((n)",
-        "(n))",
-    ] {
-        s.rule(rule.as_bytes(), false);
-    }
-    for size in [511, 512, 513] {
-        let mut rule = vec![b'!'; size - 1];
-        rule.push(b'n');
-        s.rule(&rule, false);
-        s.rule(&rule, true);
-        rule = vec![b'0'; size - 1];
-        rule.push(b'7');
-        s.rule(&rule, false);
-        s.rule(&rule, true);
+    // by hand; what no header can hold is forced
+    let long = named::long_rules();
+    for rule in named::RULES.into_iter().chain(long.iter().map(Vec::as_slice)) {
+        if !in_header(rule) {
+            s.own(&mut rng, b'd', &f, Some(rule), 0, false);
+        }
+        s.rule(rule, false);
+        s.rule(rule, true);
     }
     let mut left = [500, 0, 0, 0, 0, 0, 300];
     while left != [0; 7] {
@@ -354,6 +342,12 @@ pub fn write() -> Vec<u8> {
         if file.len() < 300 && left[number] > 0 && s.file(&mut rng, &file, &file, 0, 1).is_some() {
             left[number] -= 1;
         }
+    }
+
+    // by hand
+    for file in named::files() {
+        s.file(&mut rng, &file, &file, 0, 6);
+        s.own(&mut rng, b's', &file, None, 2, false);
     }
 
     // UTF-8 forced, and the label not looked at: in the crate the same header with no label

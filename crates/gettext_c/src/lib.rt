@@ -424,7 +424,7 @@ pub extern "C" fn gettext_rattle_evaluate<'a>(
 ) -> Form
     ensures { λ r. ⌜ r ≡ valueOf (resolvedOf (pool (now (codes .entry)) (now (places .entry)) (now (values .entry))) nodes root n) ⌝ }
 {
-    form_of(rules::resolve(codes, places, values, nodes, root, n))
+    form_of(resolve::resolve(codes, places, values, nodes, root, n))
 }
 
 // Whether a text is UTF-8: 1 or 0.

@@ -298,7 +298,7 @@ fn form_of(rule: Rule, n: u64) -> usize {
     if count == 0 {
         return 256;
     }
-    told_form(rules::resolve(&rule.codes, &rule.places, &rule.values, count, count - 1, n))
+    told_form(resolve::resolve(&rule.codes, &rule.places, &rule.values, count, count - 1, n))
 }
 
 fn forms_agree(told: &[u8], rule: Rule) -> bool {

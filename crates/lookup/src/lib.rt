@@ -78,7 +78,7 @@ pub fn nfind<'a, 'b>(
     if t.length != file.len() {
         return fall_back(n, Why::BadRecord);
     }
-    let resolved = rules::resolve(codes, places, values, nodes, root, n);
+    let resolved = resolve::resolve(codes, places, values, nodes, root, n);
     match resolved {
         Resolved::Form(form) => {
             let hit = keys::last_hit(file, t, given, context, id);

@@ -3,30 +3,17 @@ use rules::Fit;
 use rules::Rated;
 use rules::Rating;
 use rules::node;
+use rules::operand;
 ghost use mathlib.Core.Path.{_≡_};
 ghost use Prim.Native.Nat.{_+_, _<_, _≤_, _*_, min, max};
 ghost use lib.ListN.{getD};
 ghost use Rattle.rules.specs.Range.{opRange, rateTree};
 ghost use Rattle.rules.specs.Pool.{pool, opOf, treeOf};
-ghost use Rattle.rules.specs.Walk.{Sound};
+ghost use Rattle.rules.specs.Sound.{Sound};
 ghost use Rattle.rules.specs.Answer.{ratedOf, fitOf};
 
 // The largest count, 2^64 - 1.
 const LARGEST: u64 = 0xffff_ffff_ffff_ffff;
-
-// The place of operand j of the node at a place. `rules` has the same for itself: as a public function it would ask this of any caller.
-fn operand<'a>(places: &'a [u16; 1536], at: usize, j: usize) -> usize
-    requires { ⌜ (at < 512) × (j < 3) ⌝ }
-    ensures { λ r. ⌜ r ≡ getD (now (places .entry)) (3 * at + j) 0 ⌝ }
-{
-    wide(places[3 * at + j])
-}
-
-fn wide(x: u16) -> usize
-    ensures { λ r. ⌜ r ≡ x ⌝ }
-{
-    x as usize
-}
 
 fn least(x: u64, y: u64) -> u64
     ensures { λ r. ⌜ r ≡ min x y ⌝ }
@@ -103,7 +90,7 @@ pub fn rating_of<'a>(
 ) -> Rated
     ensures { λ r. ⌜ r ≡ ratedOf (pool (now (codes .entry)) (now (places .entry)) (now (values .entry))) count root ⌝ }
 {
-    if rules::is_tree(codes, places, count, root) {
+    if tree::is_tree(codes, places, count, root) {
         let range = rate(codes, places, values, root);
         let Rating::Range(lo, hi) = range else {
             return Rated::Unrated;

@@ -16,10 +16,10 @@ use Rattle.rules.specs.declared.Fit.the-variants as fit
 use Rattle.rules.specs.Value.{evalTree}
 use Rattle.rules.specs.Range.{rateTree, fitsRange}
 use Rattle.rules.specs.Pool.{Pool, pool, treeOf, isTree, shaped}
-use Rattle.rules.specs.Walk.{Sound}
+use Rattle.rules.specs.Sound.{Sound}
 use Rattle.rules.specs.Answer.{formOf, rangeOf, fitting, resolvedOf, ratedOf, fitOf}
 use Rattle.rules.proofs.Trees.{both-left, both-right}
-use Rattle.rules.proofs.Marks.{tree-any}
+use Rattle.rules.proofs.Places.{tree-any}
 
 -- the tree test looks at no values
 pub told : (P : Pool) (count root : ℕ) {a b : Bool} → a ≡ isTree (pool (P .codes) (P .places) []) count root → a ≡ b → isTree P count root ≡ b

@@ -1,8 +1,7 @@
 pub mod Operators
 pub mod Trees
-pub mod Values
 pub mod InRange
-pub mod Marks
+pub mod Places
 pub mod Answers
 pub mod Stored
 pub mod StoredTree

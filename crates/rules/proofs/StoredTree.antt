@@ -14,7 +14,7 @@ use Rattle.rules.specs.Pool.{Pool, code, arity, operandsTo, operands, al
 use Rattle.rules.specs.Store.{push, opCode, size, store, blank}
 use Rattle.rules.specs.Answer.{formOf, rangeOf, fitting, resolvedOf, ratedOf, fitOf}
 use Rattle.rules.proofs.Trees.{three-most}
-use Rattle.rules.proofs.Marks.{member-tail}
+use Rattle.rules.proofs.Places.{member-tail}
 use Rattle.rules.proofs.Answers.{resolved-tree, rated-tree, fit-tree}
 use Rattle.rules.proofs.Stored.{code-in, size-pos, Long, less, Same, Node, push-below, pushed, store-long, holds-at, long-blank}
 

@@ -9,7 +9,7 @@ use lib.Dec.{eqb, ltb}
 use borrow.Author.Tests.{lt-ltb, le-ltb, ltb-true, ne-eqb}
 use Rattle.rules.specs.Tree.{Op, Tree, var, int, nay, bin, cond}
 use Rattle.rules.specs.Pool.{Pool, code, value, operand, node, build, below, treeAt, treeOf, known, opOf, arity, operands, operandsTo, allBelow, shaped}
-use Rattle.rules.specs.Walk.{Sound, Flat, Low}
+use Rattle.rules.specs.Sound.{Sound}
 use Rattle.rules.proofs.Operators.{never}
 
 pub both-left : (a b : Bool) → (a && b) ≡ true → a ≡ true
@@ -186,20 +186,6 @@ module _ (P : Pool) (p : ℕ) where
 
   pub ternary-in : Sound P p → code P p ≡ 3 → Ternary
   ternary-in s e = (e, first-in s (omega arith), second-in s (omega arith), third-in s e)
-
-  pub is-flat : {i j : ℕ} → 3 < code P p → i ≡ operand P p 0 → ltb (code P i) 2 ≡ true → j ≡ operand P p 1 → ltb (code P j) 2 ≡ true → Flat P p
-  is-flat h d e f g = record { binary = h; left = ltb-true _ _ (rw d at e); right = ltb-true _ _ (rw f at g) }
-
-  pub is-low : {i j : ℕ} → 3 < code P p → i ≡ operand P p 0 → (code P i < 2) ⊎ Flat P i → j ≡ operand P p 1 → ltb (code P j) 2 ≡ true → Low P p
-  is-low h d e f g = record { binary = h; left = rw d at e; right = ltb-true _ _ (rw f at g) }
-
-  -- the left operand of such a node, where it is no leaf
-  pub left-flat : {i : ℕ} → Low P p → i ≡ operand P p 0 → ltb (code P i) 2 ≡ false → Flat P i
-  left-flat {i} k d e =
-      ⊎-elim
-      (λ (l : code P (operand P p 0) < 2). never (sym e ∙ lt-ltb (code P i) 2 (rw d l)))
-      (λ (l : Flat P (operand P p 0)). rw d l)
-      (k .left)
 
   pub tree-var : code P p ≡ 0 → treeOf P p ≡ var
   tree-var e = rw (tree-is P p, e)

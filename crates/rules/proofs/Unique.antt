@@ -9,20 +9,15 @@ use denote.Ref.{now}
 use borrow.Fn.Kinds.{Dens, resT, endedOf}
 use Rattle.rules.specs.declared.Rule.{Rule}
 use Rattle.rules.specs.Pool.{Pool, pool}
-use Rattle.rules.proofs.is_tree.Reads as is-tree
-use Rattle.rules.proofs.is_tree.Kinds as is-tree-kinds
-use Rattle.rules.proofs.resolve.Reads as resolve
-use Rattle.rules.proofs.resolve.Kinds as resolve-kinds
+use Rattle.rules.proofs.operand.Reads as operand
+use Rattle.rules.proofs.operand.Kinds as operand-kinds
 use Rattle.rules.proofs.default_rule.Reads as default-rule
 use Rattle.rules.proofs.default_rule.Kinds as default-rule-kinds
 use Rattle.rules.proofs.put.Reads as put
 use Rattle.rules.proofs.put.Kinds as put-kinds
 
-pub is-tree-one : One 1 is-tree-kinds.ps is-tree-kinds.r is-tree.Post
-is-tree-one κs a u v x y p q = p ∙ sym q
-
-pub resolve-one : One 1 resolve-kinds.ps resolve-kinds.r resolve.Post
-resolve-one κs a u v x y p q = p ∙ sym q
+pub operand-one : One 1 operand-kinds.ps operand-kinds.r operand.Post
+operand-one κs a u v x y p q = p ∙ sym q
 
 abbrev pub made : Pool → ℕ → Rule
 made P count = record { codes = P .codes; places = P .places; values = P .values; count = count }

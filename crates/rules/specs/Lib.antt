@@ -5,4 +5,4 @@ pub mod Pool
 pub mod Store
 pub mod Answer
 pub mod Reads
-pub mod Walk
+pub mod Sound

@@ -48,7 +48,7 @@ fn show<'a>(
     root: usize,
     k: u64,
 ) {
-    if rules::is_tree(codes, places, count, root) {
+    if tree::is_tree(codes, places, count, root) {
         say(b"tree; range ");
     } else {
         say(b"no tree; range ");
@@ -59,11 +59,11 @@ fn show<'a>(
     say(b" ");
     say_fit(rating::fits(codes, places, values, count, root, k));
     say(b"; at 0, 1, 2 ");
-    say_form(rules::resolve(codes, places, values, count, root, 0));
+    say_form(resolve::resolve(codes, places, values, count, root, 0));
     say(b" ");
-    say_form(rules::resolve(codes, places, values, count, root, 1));
+    say_form(resolve::resolve(codes, places, values, count, root, 1));
     say(b" ");
-    say_form(rules::resolve(codes, places, values, count, root, 2));
+    say_form(resolve::resolve(codes, places, values, count, root, 2));
     say(b"\n");
 }
 

@@ -1,5 +1,5 @@
-// What the program `mo` does: it reads a catalog of at most 65,536 bytes from standard input, in the Shipped reading, and writes how
-// many entries it has and the range of its rule, or the refusal. A library, so that several programs can run it on files of their own.
+// What the program `mo` does: it reads a catalog of at most 65,536 bytes, in the Shipped reading, and writes how many entries it has and
+// the range of its rule, or the refusal. A library, so that another program can run it on files of its own.
 use container::Options;
 use container::Outcome;
 use container::Record;
@@ -80,12 +80,12 @@ fn show(file: &[u8]) {
     }
 }
 
-// Reads, and writes the summary.
-pub fn run() {
+// Reads from a descriptor, and writes the summary.
+pub fn run(from: i32) {
     let mut buffer = io::large_buffer();
-    let n = io::read_full(0, &mut buffer);
+    let n = io::read_full(from, &mut buffer);
     let mut more = [0u8; 1];
-    let left = io::read_full(0, &mut more);
+    let left = io::read_full(from, &mut more);
     if left != 0 {
         io::write_all(1, b"too large\n");
         return;

@@ -18,7 +18,7 @@ use Rattle.rating.proofs.rate.Kinds as rate-kinds
 use Rattle.rating.proofs.+rate.Lts-rate as rate-lts
 use Rattle.rating.proofs.least.Reads as least-reads
 use Rattle.rating.proofs.most.Reads as most-reads
-use Rattle.rating.proofs.operand.Reads as operand-reads
+use Rattle.rules.proofs.operand.Reads as operand-reads
 use Rattle.rating.proofs.ranged.Reads as ranged-reads
 use Rattle.rating.proofs.+rate.{statement}
 use Rattle.rating.proofs.+rate.Tie.{close}

@@ -1,4 +1,0 @@
-// The program `mo` on no bytes.
-fn main() {
-    summary::run();
-}

@@ -1,4 +1,0 @@
-// The program `mo` on as many bytes as it reads.
-fn main() {
-    summary::run();
-}

@@ -1,4 +1,0 @@
-// The program `mo` on a byte too many.
-fn main() {
-    summary::run();
-}

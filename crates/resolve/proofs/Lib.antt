@@ -1,0 +1,4 @@
+mod Operators
+mod Near
+mod Values
+pub mod Unique

@@ -1,0 +1,234 @@
+// The value of a plural rule at a count. A port of plurals.rs: `resolve`.
+use rules::Resolved;
+use rules::node;
+use rules::operand;
+ghost use mathlib.Core.Path.{_≡_};
+ghost use mathlib.Core.List.{[]};
+ghost use mathlib.Core.Bool.{true};
+ghost use Prim.Native.Nat.{_<_};
+ghost use lib.ListN.{getD};
+ghost use lib.Dec.{ltb};
+ghost use Rattle.rules.specs.declared.Value.the-variants as value;
+ghost use Rattle.rules.specs.Value.{truth, compared, binary, evalTree};
+ghost use Rattle.rules.specs.Pool.{pool, opOf, treeOf};
+ghost use Rattle.rules.specs.Sound.{Sound};
+ghost use Rattle.rules.specs.Answer.{resolvedOf};
+ghost use Rattle.resolve.specs.Walk.{settled, cmpOf, Gives, leafOf, Flat, Low};
+
+fn truth(b: bool) -> u64
+    ensures { λ r. ⌜ r ≡ truth b ⌝ }
+{
+    if b { 1 } else { 0 }
+}
+
+// Whether the left operand alone settles a binary operator.
+fn settles(code: u8, x: u64) -> bool
+    ensures { λ r. ⌜ r ≡ settled (opOf code) x ⌝ }
+{
+    match code {
+        node::AND => x == 0,
+        node::OR => x != 0,
+        _ => false,
+    }
+}
+
+// A comparison of two numbers.
+fn compares(code: u8, x: u64, y: u64) -> bool
+    ensures { λ r. ⌜ r ≡ compared (cmpOf code) x y ⌝ }
+{
+    match code {
+        node::NOT_EQUAL => x != y,
+        node::GREATER_OR_EQUAL => x >= y,
+        node::SMALLER_OR_EQUAL => x <= y,
+        node::GREATER => x > y,
+        node::SMALLER => x < y,
+        _ => x == y,
+    }
+}
+
+// A binary operator on two numbers. A remainder by zero is told by the flag, and the number is of no use then.
+fn apply(code: u8, x: u64, y: u64, zero: &mut bool) -> u64
+    ensures { λ r. ⌜ Gives (binary (opOf code) (value.Is x) (value.Is y)) (now (zero .entry)) (now (zero .exit)) r ⌝ }
+{
+    if code < node::AND {
+        return truth(compares(code, x, y));
+    }
+    if code == node::AND {
+        if x == 0 {
+            return 0;
+        }
+        return truth(y != 0);
+    }
+    if code == node::OR {
+        if x == 0 {
+            return truth(y != 0);
+        }
+        return 1;
+    }
+    if y == 0 {
+        *zero = true;
+        return 0;
+    }
+    x % y
+}
+
+// Whether the node at a place is a leaf: n or an integer.
+fn is_leaf<'a>(codes: &'a [u8; 512], at: usize) -> bool
+    requires { ⌜ at < 512 ⌝ }
+    ensures { λ r. ⌜ r ≡ ltb (getD (now (codes .entry)) at 0) 2 ⌝ }
+{
+    codes[at] < node::NOT
+}
+
+// The number of a leaf.
+fn leaf<'a>(codes: &'a [u8; 512], values: &'a [u64; 512], at: usize, n: u64) -> u64
+    requires { ⌜ at < 512 ⌝ }
+    ensures { λ r. ⌜ r ≡ leafOf (pool (now (codes .entry)) [] (now (values .entry))) at n ⌝ }
+{
+    if codes[at] == node::N {
+        return n;
+    }
+    values[at]
+}
+
+// Whether the node at a place is a binary operator on two leaves, as n % 10 is.
+fn is_flat<'a>(codes: &'a [u8; 512], places: &'a [u16; 1536], at: usize) -> bool
+    requires { ⌜ Sound (pool (now codes) (now places) []) at ⌝ }
+    ensures { λ r. ⌜ (r ≡ true → Flat (pool (now (codes .entry)) (now (places .entry)) []) at) ⌝ }
+{
+    if codes[at] < node::EQUAL {
+        return false;
+    }
+    if is_leaf(codes, operand(places, at, 0)) {
+        return is_leaf(codes, operand(places, at, 1));
+    }
+    false
+}
+
+// The value of a binary operator on two leaves.
+fn flat<'a>(
+    codes: &'a [u8; 512],
+    places: &'a [u16; 1536],
+    values: &'a [u64; 512],
+    at: usize,
+    n: u64,
+    zero: &mut bool,
+) -> u64
+    requires sound { ⌜ Sound (pool (now codes) (now places) (now values)) at ⌝ }
+    requires flat { ⌜ Flat (pool (now codes) (now places) []) at ⌝ }
+    ensures { λ r. ⌜ Gives (evalTree (treeOf (pool (now (codes .entry)) (now (places .entry)) (now (values .entry))) at) n)
+        (now (zero .entry)) (now (zero .exit)) r ⌝ }
+{
+    let x = leaf(codes, values, operand(places, at, 0), n);
+    let y = leaf(codes, values, operand(places, at, 1), n);
+    apply(codes[at], x, y, zero)
+}
+
+// Whether the node at a place is a binary operator on a leaf or such a node and a leaf, as n == 1 and n % 10 == 1 are.
+fn is_low<'a>(codes: &'a [u8; 512], places: &'a [u16; 1536], at: usize) -> bool
+    requires { ⌜ Sound (pool (now codes) (now places) []) at ⌝ }
+    ensures { λ r. ⌜ (r ≡ true → Low (pool (now (codes .entry)) (now (places .entry)) []) at) ⌝ }
+{
+    if codes[at] < node::EQUAL {
+        return false;
+    }
+    if is_leaf(codes, operand(places, at, 1)) {
+        let left = operand(places, at, 0);
+        if is_leaf(codes, left) {
+            return true;
+        }
+        return is_flat(codes, places, left);
+    }
+    false
+}
+
+// The value of such a node. Rules are made of these for the most part, so they are answered without a call of eval.
+fn low<'a>(
+    codes: &'a [u8; 512],
+    places: &'a [u16; 1536],
+    values: &'a [u64; 512],
+    at: usize,
+    n: u64,
+    zero: &mut bool,
+) -> u64
+    requires sound { ⌜ Sound (pool (now codes) (now places) (now values)) at ⌝ }
+    requires low { ⌜ Low (pool (now codes) (now places) []) at ⌝ }
+    ensures { λ r. ⌜ Gives (evalTree (treeOf (pool (now (codes .entry)) (now (places .entry)) (now (values .entry))) at) n)
+        (now (zero .entry)) (now (zero .exit)) r ⌝ }
+{
+    let left = operand(places, at, 0);
+    let x = if is_leaf(codes, left) {
+        leaf(codes, values, left, n)
+    } else {
+        flat(codes, places, values, left, n, zero)
+    };
+    let y = leaf(codes, values, operand(places, at, 1), n);
+    apply(codes[at], x, y, zero)
+}
+
+// The value of the tree at a place. A remainder by zero that is met sets the flag, and the walk goes on: whatever is met is needed, so
+// no number counts then.
+fn eval<'a>(
+    codes: &'a [u8; 512],
+    places: &'a [u16; 1536],
+    values: &'a [u64; 512],
+    at: usize,
+    n: u64,
+    zero: &mut bool,
+) -> u64
+    requires { ⌜ Sound (pool (now codes) (now places) (now values)) at ⌝ }
+    ensures { λ r. ⌜ Gives (evalTree (treeOf (pool (now (codes .entry)) (now (places .entry)) (now (values .entry))) at) n)
+        (now (zero .entry)) (now (zero .exit)) r ⌝ }
+{
+    let code = codes[at];
+    if code < node::NOT {
+        return leaf(codes, values, at, n);
+    }
+    let first = operand(places, at, 0);
+    let x = if is_low(codes, places, first) {
+        low(codes, places, values, first, n, zero)
+    } else {
+        eval(codes, places, values, first, n, zero)
+    };
+    if code == node::NOT {
+        return truth(x == 0);
+    }
+    if code == node::TERNARY {
+        if x == 0 {
+            return eval(codes, places, values, operand(places, at, 2), n, zero);
+        }
+        return eval(codes, places, values, operand(places, at, 1), n, zero);
+    }
+    if settles(code, x) {
+        return apply(code, x, 0, zero);
+    }
+    let second = operand(places, at, 1);
+    let y = if is_leaf(codes, second) {
+        leaf(codes, values, second, n)
+    } else {
+        eval(codes, places, values, second, n, zero)
+    };
+    apply(code, x, y, zero)
+}
+
+// The value of a rule at a count.
+pub fn resolve<'a>(
+    codes: &'a [u8; 512],
+    places: &'a [u16; 1536],
+    values: &'a [u64; 512],
+    count: usize,
+    root: usize,
+    n: u64,
+) -> Resolved
+    ensures { λ r. ⌜ r ≡ resolvedOf (pool (now (codes .entry)) (now (places .entry)) (now (values .entry))) count root n ⌝ }
+{
+    if tree::is_tree(codes, places, count, root) {
+        let mut zero = false;
+        let x = eval(codes, places, values, root, n, &mut zero);
+        if zero {
+            return Resolved::ZeroModulus;
+        }
+        return Resolved::Form(x);
+    }
+    Resolved::NoTree
+}

@@ -1,0 +1,242 @@
+-- The tree test place by place: what a mark says of an operand, what a failed operand or node says of the whole, and that the values
+-- are not looked at.
+use mathlib.Core.Path.{_≡_, refl, sym, ap, _∙_}
+use mathlib.Core.Bool.{Bool, true, false, not, _&&_, and-false}
+use mathlib.Core.List.{List, [], _∷_, _++_}
+use mathlib.Core.Logic.{_⊎_, inl, inr, ⊎-elim}
+use Prim.Native.Nat.{ℕ, zero, suc, _+_, _<_, _≤_}
+use native.Mathlib.Omega.{arith}
+use native.Mathlib.Nat.{eq-or-lt-of-le, le-of-suc-le-suc}
+use native.Mathlib.Numerals.{add-one}
+use lib.ListN.{getD, set, replicate, length-set, length-replicate, getD-replicate}
+use lib.Seq.{getD-set-same, getD-set-other}
+use lib.Dec.{ltb, eqb}
+use borrow.Author.Tests.{lt-ltb, le-ltb, le-leb, lt-leb, ltb-true, eqb-true, eqb-false, eq-eqb, ne-eqb}
+use Rattle.rules.specs.Pool.{Pool, pool, code, operand, known, arity, operandsTo, operands, allBelow, used, member, distinct, shaped, isTree}
+use Rattle.tree.specs.Marks.{Marked, Took, Placed, Passes}
+use Rattle.rules.proofs.Operators.{never}
+use Rattle.rules.proofs.Places.{member-head, member-tail}
+use Rattle.rules.proofs.Trees.{both-left, both-right}
+
+-- the answers of the test of one operand
+module _ {q x p : ℕ} (m : List ℕ) (e : q ≡ x) where
+  pub took-high : p ≤ q → Took x p m m false
+  took-high h = record { answer = rw (le-ltb x p (omega arith)); marks = λ d. never d }
+
+  pub took-marked : q < p → (getD m q 0 ≡ 0 → ⊥) → Took x p m m false
+  took-marked h d = record {
+    answer = rw (lt-ltb x p (omega arith)) (sym (ne-eqb _ _ (rw e at d)));
+    marks = λ d. never d;
+  }
+
+  pub took-now : q < p → getD m q 0 ≡ 0 → Took x p m (set m q 1) true
+  took-now h d = record {
+    answer = rw (lt-ltb x p (omega arith)) (sym (eq-eqb _ _ (rw e at d)));
+    marks = λ f. rw e;
+  }
+
+-- a mark more
+decide : (i q : ℕ) → (i ≡ q) ⊎ (i ≡ q → ⊥)
+decide i q = go (eqb i q) refl
+  where
+    go : (b : Bool) → eqb i q ≡ b → (i ≡ q) ⊎ (i ≡ q → ⊥)
+    go true e = inl (eqb-true i q e)
+    go false e = inr (eqb-false i q e)
+
+-- no place is marked at the start
+pub unmarked : Marked (replicate 512 0) []
+unfolding member distinct
+unmarked = record {
+  long = length-replicate {A = ℕ} 512 0;
+  says = λ q h. rw (getD-replicate {A = ℕ} 512 q 0 0 h);
+  apart = refl;
+}
+
+-- an operand that was taken lies below its parent, and is one of the marked now
+module _ {q p : ℕ} {m n xs : List ℕ} {r : Bool} (k : Marked m xs) (few : p ≤ 512) (t : Took q p m n r) where
+  taken-fresh : r ≡ true → (q < p) × (member q xs ≡ false)
+  taken-fresh e =
+      let d : (ltb q p && eqb (getD m q 0) 0) ≡ true = sym (t .answer) ∙ e in
+      let l : q < p = ltb-true q p (both-left (ltb q p) _ d) in
+      (l, sym (k .says q (omega arith)) ∙ ap not (both-right (ltb q p) _ d))
+
+  pub taken-below : r ≡ true → q < p
+  taken-below e = taken-fresh e .0
+
+  pub taken-marked : r ≡ true → Marked n (q ∷ xs)
+  unfolding distinct
+  taken-marked e =
+      let l : q < 512 = omega (arith, taken-fresh e .0) in
+      let w : n ≡ set m q 1 = t .marks e in
+      record {
+        long = rw (w, length-set) (k .long);
+        says = λ i h. rw w (⊎-elim
+            (λ d. rw (d, getD-set-same m q 1 0 (omega (arith, k .long)), member-head q q xs refl))
+            (λ d. rw (getD-set-other m q i 1 0 d, member-tail q i xs d) (k .says i h))
+            (decide i q));
+        apart = rw (taken-fresh e .1) (k .apart);
+      }
+
+  -- one that was not is not below its parent, or is an operand already
+  pub untaken : r ≡ false → (ltb q p && not (member q xs)) ≡ false
+  untaken e = go (ltb q p) refl
+    where
+      go : (b : Bool) → ltb q p ≡ b → (b && not (member q xs)) ≡ false
+      go true f =
+          let l : q < p = ltb-true q p f in
+          let z : eqb (getD m q 0) 0 ≡ false = rw f at (sym (t .answer) ∙ e) in
+          rw (← k .says q (omega arith), z)
+      go false f = refl
+
+and-drop : (x b y d : Bool) → (x && y) ≡ false → ((x && b) && (y && d)) ≡ false
+and-drop true true y d e = rw e
+and-drop true false y d e = refl
+and-drop false b y d e = refl
+
+and-keep : (x b y d : Bool) → (b && d) ≡ false → ((x && b) && (y && d)) ≡ false
+and-keep true true y d e = rw e (and-false y)
+and-keep true false y d e = refl
+and-keep false b y d e = refl
+
+and-split : (s k a d : Bool) → (k && (a && d)) ≡ false → ((s && (k && a)) && d) ≡ false
+and-split true true a d e = e
+and-split true false a d e = refl
+and-split false k a d e = refl
+
+-- the operands of a node before the j-th were taken
+pub record Taken (P : Pool) (p j : ℕ) (m : List ℕ) : Type 0 where
+  pub lower : allBelow p (operandsTo P p j) ≡ true
+  pub marked : Marked m (operandsTo P p j ++ used P p)
+
+module _ (P : Pool) (p : ℕ) where
+  pub none-taken : {m : List ℕ} → Marked m (used P p) → Taken P p 0 m
+  unfolding operandsTo allBelow
+  none-taken k = record { lower = refl; marked = k }
+
+  pub one-more : (j : ℕ) {m n : List ℕ} {r : Bool} → Taken P p j m → p ≤ 512 → Took (operand P p j) p m n r → r ≡ true → Taken P p (j + 1) n
+  unfolding operandsTo allBelow
+  one-more j k few t e = record {
+    lower = rw (add-one, lt-ltb _ _ (taken-below (k .marked) few t e), k .lower);
+    marked = rw add-one (taken-marked (k .marked) few t e);
+  }
+
+  -- one that was not fails the node
+  operand-fails : (a j : ℕ) → j < a → (ltb (operand P p j) p && not (member (operand P p j) (operandsTo P p j ++ used P p))) ≡ false
+      → (allBelow p (operandsTo P p a) && distinct (operandsTo P p a ++ used P p)) ≡ false
+  unfolding operandsTo allBelow distinct
+  operand-fails zero j h e = absurd (omega arith)
+  operand-fails (suc a) j h e =
+      ⊎-elim
+      (λ q. and-drop (ltb (operand P p a) p) _ (not (member (operand P p a) (operandsTo P p a ++ used P p))) _ (rw q at e))
+      (λ l. and-keep (ltb (operand P p a) p) _ (not (member (operand P p a) (operandsTo P p a ++ used P p))) _ (operand-fails a j l e))
+      (eq-or-lt-of-le (le-of-suc-le-suc h))
+
+  -- the answers of the test of one node
+  pub unknown : {n : List ℕ} → 12 < code P p → Placed P p n false
+  unknown h = record { answer = rw (le-ltb (code P p) 13 (omega arith)); marks = λ e. never e }
+
+  pub refused : (j : ℕ) {m n : List ℕ} {r : Bool} → code P p ≤ 12 → j < arity (code P p) → Taken P p j m → p ≤ 512 → Took (operand P p j) p m n r
+      → r ≡ false → Placed P p n false
+  unfolding operands
+  refused j h l k few t e = record {
+    answer = rw (lt-ltb (code P p) 13 (omega arith)) (sym (operand-fails (arity (code P p)) j l (untaken (k .marked) few t e)));
+    marks = λ e. never e;
+  }
+
+  pub placed : (j : ℕ) {m : List ℕ} → code P p ≤ 12 → j ≡ arity (code P p) → Taken P p j m → Placed P p m true
+  unfolding operands
+  placed j h l k =
+      let k' : Taken P p (arity (code P p)) _ = rw l at k in
+      record {
+        answer = rw (lt-ltb (code P p) 13 (omega arith), k' .lower, k' .marked .apart);
+        marks = λ e. k' .marked;
+      }
+
+  -- the node of a leaf, and of a code with one, two and three operands, whose operands were taken
+  pub no-operand : {m : List ℕ} → code P p < 2 → Taken P p 0 m → Placed P p m true
+  no-operand h k = placed 0 (omega arith) (rw (arity, lt-ltb _ _ h)) k
+
+  pub one-operand : {m : List ℕ} → code P p ≡ 2 → Taken P p 1 m → Placed P p m true
+  one-operand h k = placed 1 (omega arith) (rw h) k
+
+  pub two-operands : {m : List ℕ} → 3 < code P p → code P p ≤ 12 → Taken P p 2 m → Placed P p m true
+  two-operands h l k =
+      placed 2 l (rw (arity, le-ltb (code P p) 2 (omega arith), ne-eqb (code P p) 2 (omega arith), ne-eqb (code P p) 3 (omega arith))) k
+
+  -- a third operand is the last, so it decides
+  pub third-decides : (r : Bool) {m n : List ℕ} → code P p ≡ 3 → Taken P p 2 m → p ≤ 512 → Took (operand P p 2) p m n r → Placed P p n r
+  third-decides true h k few t = placed 3 (omega arith) (rw h) (one-more 2 k few t refl)
+  third-decides false h k few t = refused 2 (omega arith) (rw h (omega arith)) k few t refl
+
+distinct-tail : (ys zs : List ℕ) → distinct zs ≡ false → distinct (ys ++ zs) ≡ false
+unfolding distinct
+distinct-tail [] zs e = e
+distinct-tail (y ∷ ys) zs e = rw (distinct-tail ys zs e) (and-false (not (member y (ys ++ zs))))
+
+-- every place below k was passed
+pub record Passed (P : Pool) (k : ℕ) (m : List ℕ) : Type 0 where
+  pub whole : shaped P k ≡ true
+  pub marked : Marked m (used P k)
+
+module _ (P : Pool) where
+  pub none-passed : Passed P 0 (replicate 512 0)
+  unfolding shaped used
+  none-passed = record { whole = refl; marked = unmarked }
+
+  pub one-passed : (p : ℕ) {m n : List ℕ} {r : Bool} → Passed P p m → Placed P p n r → r ≡ true → Passed P (p + 1) n
+  unfolding shaped used
+  one-passed p k t e =
+      let d : (known (code P p) && (allBelow p (operands P p) && distinct (operands P p ++ used P p))) ≡ true = sym (t .answer) ∙ e in
+      let b = both-right (known (code P p)) _ d in
+      record {
+        whole = rw (add-one, k .whole, both-left (known (code P p)) _ d, both-left (allBelow p (operands P p)) _ b);
+        marked = rw add-one (t .marks e);
+      }
+
+  -- a node that fails fails the whole
+  node-fails : (k p : ℕ) → p < k → (known (code P p) && (allBelow p (operands P p) && distinct (operands P p ++ used P p))) ≡ false
+      → (shaped P k && distinct (used P k)) ≡ false
+  unfolding shaped used
+  node-fails zero p h e = absurd (omega arith)
+  node-fails (suc k) p h e =
+      ⊎-elim
+      (λ q. and-split (shaped P k) (known (code P k)) (allBelow k (operands P k)) _ (rw q at e))
+      (λ l. go (shaped P k) (known (code P k) && allBelow k (operands P k)) (node-fails k p l e))
+      (eq-or-lt-of-le (le-of-suc-le-suc h))
+    where
+      go : (s b : Bool) → (s && distinct (used P k)) ≡ false → ((s && b) && distinct (operands P k ++ used P k)) ≡ false
+      go true b f = rw (distinct-tail (operands P k) (used P k) f) (and-false b)
+      go false b f = refl
+
+  -- the answers of the test of all nodes
+  pub stopped : {n : List ℕ} {r : Bool} (k p : ℕ) → p < k → Placed P p n r → r ≡ false → Passes P k p
+  stopped k p h t e = record {
+    inside = omega arith;
+    all = λ d. absurd (omega arith);
+    fails = λ d. node-fails k p h (sym (t .answer) ∙ e);
+  }
+
+  pub passed : {m : List ℕ} (k p : ℕ) → p ≡ k → Passed P p m → Passes P k p
+  passed k p e t = record {
+    inside = omega arith;
+    all = λ d. rw (← e, t .whole, t .marked .apart);
+    fails = λ d. absurd (omega arith);
+  }
+
+-- the answers of the tree test
+module _ (P : Pool) (count root : ℕ) where
+  pub too-many : 512 < count → false ≡ isTree P count root
+  unfolding isTree
+  too-many h = rw (lt-leb count 512 h)
+
+  pub no-root : count ≤ 512 → count ≤ root → false ≡ isTree P count root
+  unfolding isTree
+  no-root h l = rw (le-leb count 512 h, le-ltb root count l)
+
+  pub tested : {r : ℕ} → count ≤ 512 → root < count → Passes P count r → eqb r count ≡ isTree P count root
+  unfolding isTree
+  tested {r} h l t = rw (le-leb count 512 h, lt-ltb root count l) (go (eqb r count) refl)
+    where
+      go : (b : Bool) → eqb r count ≡ b → b ≡ (shaped P count && distinct (used P count))
+      go true e = sym (t .all (eqb-true r count e))
+      go false e = let d : r ≡ count → ⊥ = eqb-false r count e in sym (t .fails (omega (arith, t .inside)))

@@ -1,0 +1,88 @@
+// The test that the nodes of a rule are a tree, place by place with a mark for each operand. A record can be altered, so every plural
+// lookup and every rating begins with it.
+use rules::node;
+use rules::operand;
+ghost use mathlib.Core.Path.{_≡_};
+ghost use mathlib.Core.List.{[]};
+ghost use Prim.Native.Nat.{_+_, _<_, _≤_, _*_};
+ghost use lib.ListN.{getD};
+ghost use Rattle.rules.specs.Pool.{pool, used, isTree};
+ghost use Rattle.tree.specs.Marks.{Marked, Took, Placed, Passes};
+
+// Whether operand j of the node at p lies below it and is no operand yet; it is marked as one then.
+fn takes<'a>(places: &'a [u16; 1536], marks: &mut [u8; 512], p: usize, j: usize) -> bool
+    requires { ⌜ (p < 512) × (j < 3) ⌝ }
+    ensures { λ r. ⌜ Took (getD (now (places .entry)) (3 * p + j) 0) p (now (marks .entry)) (now (marks .exit)) r ⌝ }
+{
+    let q = operand(places, p, j);
+    if p <= q {
+        return false;
+    }
+    if marks[q] != 0 {
+        return false;
+    }
+    marks[q] = 1;
+    true
+}
+
+// Whether the node at p has a known code and takes all the operands that the code uses.
+fn is_node<'a>(
+    codes: &'a [u8; 512],
+    places: &'a [u16; 1536],
+    marks: &mut [u8; 512],
+    p: usize,
+) -> bool
+    requires { ⌜ (p < 512) × Marked (now marks) (used (pool (now codes) (now places) []) p) ⌝ }
+    ensures { λ r. ⌜ Placed (pool (now (codes .entry)) (now (places .entry)) []) p (now (marks .exit)) r ⌝ }
+{
+    let code = codes[p];
+    if code < node::NOT {
+        return true;
+    }
+    if node::MODULO < code {
+        return false;
+    }
+    if !takes(places, marks, p, 0) {
+        return false;
+    }
+    if code == node::NOT {
+        return true;
+    }
+    if !takes(places, marks, p, 1) {
+        return false;
+    }
+    if code != node::TERNARY {
+        return true;
+    }
+    takes(places, marks, p, 2)
+}
+
+// The first place whose node fails, or the count. It is a place and no answer so that the loop carries one number only.
+fn passes<'a>(codes: &'a [u8; 512], places: &'a [u16; 1536], count: usize) -> usize
+    requires { ⌜ count ≤ 512 ⌝ }
+    ensures { λ r. ⌜ Passes (pool (now (codes .entry)) (now (places .entry)) []) count r ⌝ }
+{
+    let mut marks = [0u8; 512];
+    let mut p = 0;
+    while p < count {
+        if is_node(codes, places, &mut marks, p) {
+            p += 1;
+        } else {
+            return p;
+        }
+    }
+    p
+}
+
+// Whether the nodes are a tree. The values are not looked at.
+pub fn is_tree<'a>(codes: &'a [u8; 512], places: &'a [u16; 1536], count: usize, root: usize) -> bool
+    ensures { λ r. ⌜ r ≡ isTree (pool (now (codes .entry)) (now (places .entry)) []) count root ⌝ }
+{
+    if rules::MOST < count {
+        return false;
+    }
+    if count <= root {
+        return false;
+    }
+    passes(codes, places, count) == count
+}
