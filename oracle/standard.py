@@ -492,21 +492,21 @@ def fits(file):
     return all(cell + 8 <= len(file) and sum(struct.unpack_from(order + "2I", file, cell)) + 1 <= len(file) for cell in cells)
 
 
-# the one rule among the forced ones that the crate's reading takes otherwise than C: it cuts at && first
-SHIPPED = {"n&&1?2:0": ("&&", "n", ("?", 1, 2, 0))}
+# the rules among the forced ones that the crate's reading takes otherwise than C: it cuts at && first, and at a bracket's last byte
+SHIPPED = {"n&&1?2:0": ("&&", "n", ("?", 1, 2, 0)), "(n\0": "n"}
 
 
 def catalog_right(case, origin):
     """A catalog of the list that the crate did not answer, by this file's own readers; and how many lookups it has."""
     flags, number = case[2:4]
     length, size = struct.unpack_from("<2H", case, 4)
-    forced, file, rest = case[8 : 8 + length].decode(), case[8 + length : 8 + length + size], case[8 + length + size :]
+    forced, file, rest = case[8 : 8 + length].decode("latin-1"), case[8 + length : 8 + length + size], case[8 + length + size :]
     if origin == "d" and not flags & 1 and number == 6:
         # where the crate panics
         return not rest, 0
     wanted, tree = number_of(forced) if flags & 1 else (0, None)
-    if origin == "d":
-        tree = SHIPPED.get(forced, tree)
+    if origin == "d" and forced in SHIPPED:
+        wanted, tree = 0, SHIPPED[forced]
     if wanted == 0 and not fits(file):
         wanted = 1
     found = catalog(file) if wanted == 0 else {}
@@ -547,7 +547,7 @@ def sample(path):
         if kind == 2 and origin == "s":
             rules += 1
             (length,) = struct.unpack_from("<H", case, 4)
-            rule, told = case[6 : 6 + length].decode(), case[6 + length :]
+            rule, told = case[6 : 6 + length].decode("latin-1"), case[6 + length :]
             wanted, tree = number_of(rule)
             forms = [value(tree, n) for n in FORMS_AT] if wanted == 0 else []
             right = case[3] == wanted and list(told) == [255 if form is None else min(form, 64) for form in forms]

@@ -1,7 +1,7 @@
 // Cases chosen by hand, one for each kind of rule and of file that document 01 tells apart.
 use crate::make::{plain, Entry};
 
-pub const RULES: [&[u8]; 51] = [
+pub const RULES: [&[u8]; 53] = [
     // the starred ones
     b"n%10%3",
     b"n>1 == 0",
@@ -22,6 +22,8 @@ pub const RULES: [&[u8]; 51] = [
     b"18446744073709551615",
     b"18446744073709551616",
     b"0 ? 18446744073709551616 : 1",
+    b"n 18446744073709551616",
+    b"(n 18446744073709551616)",
     b":n?n",
     b">>=",
     b"!!=1",

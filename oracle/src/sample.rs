@@ -347,7 +347,6 @@ pub fn write() -> Vec<u8> {
     // by hand
     for file in named::files() {
         s.file(&mut rng, &file, &file, 0, 6);
-        s.own(&mut rng, b's', &file, None, 2, false);
     }
 
     // UTF-8 forced, and the label not looked at: in the crate the same header with no label
