@@ -142,7 +142,7 @@ impl Stats {
 }
 
 pub struct Oracle {
-    lent: Lent,
+    pub lent: Lent,
     empty: Record,
     pub stats: Stats,
     buffer: Vec<u8>,

@@ -1,5 +1,6 @@
 // Runs against the Rust crate gettext 0.4.0, unchanged: the same files, rules, keys and counts are given to the crate and to the port's
 // static library, and every answer is compared. The last line of each part is its summary; the exit status is 1 where they differ.
+mod altered;
 mod compare;
 mod make;
 mod named;
@@ -19,6 +20,7 @@ use std::time::Instant;
 const USAGE: &str = "usage: oracle run --seed S --cases N [--from I] [--threads T]
        oracle rules --exhaustive K [--threads T]
        oracle utf8 [--up-to K] [--threads T]
+       oracle altered --seed S --cases N [--threads T]
        oracle real DIR.. [--keys K] [--threads T]
        oracle sample";
 
@@ -289,6 +291,14 @@ fn main() {
             let first = value(&words, "--from").unwrap_or(0);
             let (stats, differ) = many(threads, first, first + cases, |oracle, i| case(oracle, seed, i));
             summary(&format!("run, seed {seed}"), &stats, differ, start)
+        }
+        Some("altered") => {
+            let (Some(seed), Some(cases)) = (value(&words, "--seed"), value(&words, "--cases")) else {
+                eprintln!("{USAGE}");
+                exit(2)
+            };
+            let (stats, differ) = many(threads, 0, cases, |oracle, i| oracle.altered(&mut Rng::new(seed, i)));
+            summary(&format!("altered records, seed {seed}"), &stats, differ, start)
         }
         Some("rules") => {
             let Some(longest) = value(&words, "--exhaustive") else {

@@ -7,7 +7,7 @@ use std::ffi::{c_char, c_int, c_long, c_uint, c_void};
 #[path = "../../host/rust/src/ffi.rs"]
 mod ffi;
 pub use ffi::{empty, is_utf8, Answer, Record};
-use ffi::{Form, Loaded, Rating};
+use ffi::{Fits, Form, Loaded, Rating};
 
 extern "C" {
     fn memfd_create(name: *const c_char, flags: c_uint) -> c_int;
@@ -101,6 +101,17 @@ impl Lent {
     }
 }
 
+impl Lent {
+    // A record that the oracle made.
+    pub fn put_record<'a>(&self, record: &Record) -> &'a Record {
+        let at = self.record.size - std::mem::size_of::<Record>();
+        unsafe {
+            (self.record.write.add(at) as *mut Record).write(*record);
+            &*(self.record.read.add(at) as *const Record)
+        }
+    }
+}
+
 impl Ours<'_> {
     pub fn gettext(&self, file: &[u8], id: &[u8]) -> Answer {
         ffi::gettext(file, self.catalog, id)
@@ -124,6 +135,10 @@ impl Ours<'_> {
 
     pub fn rating(&self) -> Rating {
         ffi::rating(self.catalog)
+    }
+
+    pub fn fits(&self, k: u64) -> Fits {
+        ffi::fits(self.catalog, k)
     }
 }
 

@@ -65,6 +65,7 @@ pub struct Rating {
 
 /// Whether a rule fits.
 #[repr(C)]
+#[derive(Clone, Copy, Debug, PartialEq)]
 pub struct Fits {
     pub number: u32,
     pub fits: u32,

@@ -1,0 +1,213 @@
+// Records that no load made, and ratings: the crate has neither, so the port is held to a model of document 01's "The record", "Range
+// table" and "Numbers returned" in plain Rust, with sums without bound.
+use crate::compare::{hex, Oracle};
+use crate::make;
+use crate::rattle::{Answer, Ours, Record};
+use crate::rng::Rng;
+
+fn operands(r: &Record, p: usize) -> &[u16] {
+    let uses = match r.codes[p] {
+        0 | 1 => 0,
+        2 => 1,
+        3 => 3,
+        _ => 2,
+    };
+    &r.places[3 * p..3 * p + uses]
+}
+
+fn is_tree(r: &Record) -> bool {
+    if r.nodes > 512 || r.root >= r.nodes || r.codes[..r.nodes].iter().any(|&code| code > 12) {
+        return false;
+    }
+    let mut taken: Vec<u16> = Vec::new();
+    for p in 0..r.nodes {
+        if operands(r, p).iter().any(|&q| q as usize >= p) {
+            return false;
+        }
+        taken.extend(operands(r, p));
+    }
+    let all = taken.len();
+    taken.sort_unstable();
+    taken.dedup();
+    taken.len() == all
+}
+
+// The lowest and the highest value; none where the rule is not rated.
+fn range(r: &Record, p: usize) -> Option<(u64, u64)> {
+    let mut under = Vec::new();
+    for &q in operands(r, p) {
+        under.push(range(r, q as usize));
+    }
+    let under: Option<Vec<(u64, u64)>> = under.into_iter().collect();
+    let under = under?;
+    Some(match r.codes[p] {
+        0 => (0, u64::MAX),
+        1 => (r.values[p], r.values[p]),
+        3 => (under[1].0.min(under[2].0), under[1].1.max(under[2].1)),
+        12 if under[1].0 == 0 => return None,
+        12 => (0, under[0].1.min(under[1].1 - 1)),
+        _ => (0, 1),
+    })
+}
+
+// The string of cell i of a table, with the byte after it.
+fn string(file: &[u8], big: bool, table: usize, i: usize) -> Option<(usize, &[u8])> {
+    let at = table as u128 + 8 * i as u128;
+    if at + 8 > file.len() as u128 {
+        return None;
+    }
+    let word = |at| make::word_at(file, big, at) as usize;
+    let (len, start) = (word(at as usize), word(at as usize + 4));
+    file.get(start..start + len + 1).map(|string| (start, string))
+}
+
+// The key of entry i, and its translation with its place.
+fn entry<'a>(file: &'a [u8], r: &Record, i: usize) -> Option<(&'a [u8], usize, &'a [u8])> {
+    let (_, original) = string(file, r.tables.big != 0, r.tables.originals, i)?;
+    let id = original.iter().position(|&b| b == 4).map_or(0, |four| four + 1);
+    let end = id + original[id..].iter().position(|&b| b == 0)?;
+    let (start, translation) = string(file, r.tables.big != 0, r.tables.translations, i)?;
+    Some((&original[..end], start, &translation[..translation.len() - 1]))
+}
+
+// What a lookup should answer; no count for the two that have none.
+fn answer(file: &[u8], r: &Record, key: &[u8], n: Option<u64>) -> Answer {
+    let which = if n.map_or(true, |n| n == 1) { 1 } else { 2 };
+    let caller = |number| Answer { number, which, entry: 0, form: 0, start: 0, len: 0 };
+    if file.len() != r.tables.length || n.is_some() && !is_tree(r) {
+        return caller(11);
+    }
+    let form = match n {
+        None => 0,
+        Some(n) => match r.resolve(r.root, n) {
+            None => return caller(10),
+            Some(form) => form,
+        },
+    };
+    // entries past these have no cell in the file
+    let most = r.tables.count.min(file.len() / 8 + 1);
+    let found = (0..most).rev().find_map(|i| entry(file, r, i).filter(|found| found.0 == key).map(|found| (i, found)));
+    let Some((i, (_, start, translation))) = found else { return caller(0) };
+    let mut at = start;
+    for (k, segment) in translation.split(|&b| b == 0).enumerate() {
+        if k as u64 == form {
+            return Answer { number: 0, which: 0, entry: i, form, start: at, len: segment.len() };
+        }
+        at += segment.len() + 1;
+    }
+    caller(0)
+}
+
+// A few nodes made anew: any codes and places, near trees for the most part.
+fn alter_rule(rng: &mut Rng, r: &mut Record) {
+    if rng.one_in(3) {
+        r.nodes = 1 + rng.below(9);
+        for p in 0..r.nodes {
+            r.codes[p] = if p < 2 || rng.one_in(3) { rng.below(2) as u8 } else { rng.below(13) as u8 };
+            r.values[p] = *rng.pick(&[0, 1, 2, 3, 10, u64::MAX]);
+            for j in 0..3 {
+                r.places[3 * p + j] = if p == 0 { 0 } else { rng.below(p) as u16 };
+            }
+        }
+        r.root = if rng.one_in(3) { rng.below(r.nodes) } else { r.nodes - 1 };
+    }
+    for _ in 0..rng.below(3) {
+        let p = rng.below(r.nodes.min(512) + 1).min(511);
+        match rng.below(6) {
+            0 => r.codes[p] = *rng.pick(&[0, 1, 2, 3, 4, 12, 13, 255]),
+            1 => r.places[3 * p + rng.below(3)] = *rng.pick(&[0, 1, p as u16, (p + 1) as u16, 511, 512, 65535]),
+            2 => r.places[3 * p + rng.below(3)] = rng.below(p + 1) as u16,
+            3 => r.values[p] = rng.next(),
+            4 => r.nodes = *rng.pick(&[0, 1, p, p + 1, 511, 512, 513, usize::MAX]),
+            _ => r.root = *rng.pick(&[0, p, p + 1, 511, 512, usize::MAX]),
+        }
+    }
+}
+
+fn alter_tables(rng: &mut Rng, r: &mut Record, size: usize) {
+    let t = &mut r.tables;
+    match rng.below(8) {
+        0 => t.count = *rng.pick(&[0, 1, 2, size / 8, size / 8 + 1, u32::MAX as usize, usize::MAX]),
+        1 => t.originals = *rng.pick(&[0, t.translations, t.originals + 8, size, size + 1, usize::MAX - 7, usize::MAX]),
+        2 => t.translations = *rng.pick(&[0, t.originals, t.translations.wrapping_sub(8), size.wrapping_sub(8), usize::MAX - 8, usize::MAX]),
+        3 => t.big = *rng.pick(&[0, 1, 2, usize::MAX]),
+        4 => t.originals = rng.below(size + 9),
+        5 => t.translations = rng.below(size + 9),
+        6 => t.length = *rng.pick(&[0, size + 1, size.wrapping_sub(1), usize::MAX]),
+        _ => {}
+    }
+}
+
+impl Oracle {
+    // A loaded record with a few fields altered, and every answer that it gives.
+    pub fn altered(&mut self, rng: &mut Rng) -> Result<(), String> {
+        let bytes = make::file(rng);
+        let file = self.lent.file.put(&bytes, rng.one_in(2));
+        let loaded = self.lent.load(file, None, rng.one_in(2), true);
+        let mut record = *loaded.catalog;
+        if loaded.number != 0 {
+            // no load made it, so let it be near this file
+            record.tables.length = bytes.len();
+            record.tables.count = rng.below(4);
+            record.tables.originals = 28;
+            record.tables.translations = 28 + 8 * rng.below(4);
+        }
+        alter_rule(rng, &mut record);
+        alter_tables(rng, &mut record, bytes.len());
+        let ours = Ours { number: 0, catalog: self.lent.put_record(&record) };
+        self.stats.cases += 1;
+        let told = |what: String| Err(format!("{what}\n  file {}\n  tables {:?}", hex(&bytes), record.tables));
+
+        let tree = is_tree(&record);
+        let rated = if tree { range(&record, record.root) } else { None };
+        let rating = ours.rating();
+        let wanted = rated.map_or((0, 0, 0), |(lowest, highest)| (1, lowest, highest));
+        if (rating.number, (rating.rated, rating.lowest, rating.highest)) != (if tree { 0 } else { 11 }, wanted) {
+            return told(format!("rating {rating:?}, by the model {wanted:?}, a tree: {tree}"));
+        }
+        for k in [0, 1, 2, rated.map_or(3, |(_, highest)| highest), rated.map_or(4, |(_, highest)| highest.saturating_add(1))] {
+            let fits = ours.fits(k);
+            let wanted = (if tree { 0 } else { 11 }, rated.map_or(false, |(_, highest)| highest < k) as u32);
+            if (fits.number, fits.fits) != wanted {
+                return told(format!("fits {k}: {fits:?}, by the model {wanted:?}"));
+            }
+        }
+        self.stats.numbers[if tree { rated.map_or(10, |_| 0) } else { 11 }] += 1;
+        let mut keys: Vec<Vec<u8>> = vec![b"".to_vec(), b"a".to_vec()];
+        let most = record.tables.count.min(bytes.len() / 8 + 1);
+        for i in 0..most.min(6) {
+            if let Some((key, _, _)) = entry(&bytes, &record, i) {
+                keys.push(key.to_vec());
+            }
+        }
+        for _ in 0..4 {
+            let n = *rng.pick(&make::COUNTS);
+            let value = if tree { record.resolve(record.root, n) } else { None };
+            let wanted = (if !tree { 11 } else if value.is_none() { 10 } else { 0 }, value.unwrap_or(0));
+            let form = ours.evaluate(n);
+            self.stats.values += 1;
+            if (form.number, form.form) != wanted {
+                return told(format!("value at {n}: {form:?}, by the model {wanted:?}"));
+            }
+            let key = rng.pick(&keys).clone();
+            let id = self.lent.id.put(&key, rng.one_in(2));
+            let (one, many) = (ours.gettext(file, id), ours.ngettext(file, id, n));
+            let wanted = (answer(&bytes, &record, &key, None), answer(&bytes, &record, &key, Some(n)));
+            self.stats.lookups += 2;
+            if (one, many) != wanted {
+                return told(format!("key {} at {n}: {:?}, by the model {wanted:?}", hex(&key), (one, many)));
+            }
+            // the same with the key's context apart
+            if let Some(four) = key.iter().position(|&b| b == 4) {
+                let context = self.lent.context.put(&key[..four], rng.one_in(2));
+                let id = self.lent.id.put(&key[four + 1..], rng.one_in(2));
+                let apart = (ours.pgettext(file, context, id), ours.npgettext(file, context, id, n));
+                self.stats.lookups += 2;
+                if apart != wanted {
+                    return told(format!("key {} apart at {n}: {apart:?}, by the model {wanted:?}", hex(&key)));
+                }
+            }
+        }
+        Ok(())
+    }
+}
