@@ -1,8 +1,7 @@
 -- The steps of the token reader, over plain values: each is one step of the definition of a text's tokens.
 use Prim.Native.Nat.{ℕ, suc, _+_, _-_, _*_, _<_, _≤_, _^_}
-use Prim.Native.Char.{code}
 use mathlib.Core.Path.{_≡_, refl, sym, ap, _∙_}
-use mathlib.Core.Bool.{Bool, true, false, and-false}
+use mathlib.Core.Bool.{Bool, true, false, and-false, false≢true}
 use mathlib.Core.List.{List, [], _∷_}
 use mathlib.Core.Option.{Option, none, some}
 use native.Mathlib.Omega.{arith}
@@ -25,23 +24,21 @@ use Rattle.tokens.proofs.Rows.{past-end}
 
 -- how many bytes in front pass a test
 module _ (f : ℕ → Bool) where
-  pub lead-taken : (b : ℕ) (s : List ℕ) → f b ≡ true → lead f (b ∷ s) ≡ suc (lead f s)
+  lead-taken : (b : ℕ) (s : List ℕ) → f b ≡ true → lead f (b ∷ s) ≡ suc (lead f s)
   unfolding lead
   lead-taken b s e = taken-if _ _ e
 
-  pub lead-left : (b : ℕ) (s : List ℕ) → f b ≡ false → lead f (b ∷ s) ≡ 0
+  lead-left : (b : ℕ) (s : List ℕ) → f b ≡ false → lead f (b ∷ s) ≡ 0
   unfolding lead
   lead-left b s e = left-if _ _ e
 
-  pub lead-on : (s : List ℕ) (at : ℕ) → at < length s → f (getD s at 0) ≡ true → lead f (drop at s) ≡ suc (lead f (drop (at + 1) s))
-  unfolding lead
+  lead-on : (s : List ℕ) (at : ℕ) → at < length s → f (getD s at 0) ≡ true → lead f (drop at s) ≡ suc (lead f (drop (at + 1) s))
   lead-on s at h e = rw (drop-cons s at 0 h, add-one at) (lead-taken (getD s at 0) (drop (suc at) s) e)
 
-  pub lead-off : (s : List ℕ) (at : ℕ) → at < length s → f (getD s at 0) ≡ false → lead f (drop at s) ≡ 0
-  unfolding lead
+  lead-off : (s : List ℕ) (at : ℕ) → at < length s → f (getD s at 0) ≡ false → lead f (drop at s) ≡ 0
   lead-off s at h e = rw (drop-cons s at 0 h) (lead-left (getD s at 0) (drop (suc at) s) e)
 
-  pub lead-end : (s : List ℕ) (at : ℕ) → length s ≤ at → lead f (drop at s) ≡ 0
+  lead-end : (s : List ℕ) (at : ℕ) → length s ≤ at → lead f (drop at s) ≡ 0
   unfolding lead
   lead-end s at h = rw (drop-of-length-le s h) refl
 
@@ -54,7 +51,7 @@ module _ (f : ℕ → Bool) where
       go true e h = omega (arith, lead-taken b s e)
       go false e h = omega (arith, lead-left b s e)
 
-  pub stands : (s : List ℕ) → lead f s < length s → f (getD s (lead f s) 0) ≡ false
+  stands : (s : List ℕ) → lead f s < length s → f (getD s (lead f s) 0) ≡ false
   unfolding lead
   stands [] h = absurd (omega arith)
   stands (b ∷ s) h = go (f b) refl (stands s)
@@ -69,13 +66,9 @@ module _ (s : List ℕ) (at : ℕ) where
   unfolding skipped
   skip-end h = omega (arith, lead-end blank s at h)
 
-  pub skip-space : {r : ℕ} → at < length s → getD s at 0 ≡ 32 → r ≡ skipped s (at + 1) → r ≡ skipped s at
+  pub skip-blank : {r : ℕ} → at < length s → blank (getD s at 0) ≡ true → r ≡ skipped s (at + 1) → r ≡ skipped s at
   unfolding skipped
-  skip-space h e w = omega (arith, lead-on blank s at h (rw e refl))
-
-  pub skip-tab : {r : ℕ} → at < length s → getD s at 0 ≡ 9 → r ≡ skipped s (at + 1) → r ≡ skipped s at
-  unfolding skipped
-  skip-tab h e w = omega (arith, lead-on blank s at h (rw e refl))
+  skip-blank h e w = omega (arith, lead-on blank s at h e)
 
   pub skip-stop : at < length s → (getD s at 0 ≡ 32 → ⊥) → (getD s at 0 ≡ 9 → ⊥) → at ≡ skipped s at
   unfolding skipped
@@ -162,7 +155,9 @@ no-digit : (b : ℕ) → blank b ≡ true → digit b ≡ false
 no-digit b e = go (leb 48 b) refl
   where
     go : (x : Bool) → leb 48 b ≡ x → digit b ≡ false
-    go true h = let z = leb-true 48 b h in let t : blank b ≡ false = rw (ne-eqb b 32 (λ i. omega arith), ne-eqb b 9 (λ i. omega arith)) refl in let y : true ≡ false = sym e ∙ t in let q : _≡_ {A = ℕ} 0 1 = cc in absurd (omega arith)
+    go true h =
+        let z = leb-true 48 b h in
+        absurd (false≢true (sym (rw (ne-eqb b 32 (λ i. omega arith), ne-eqb b 9 (λ i. omega arith)) refl) ∙ e))
     go false h = rw h refl
 
 blanks : (s : List ℕ) → tokens s ≡ tokens (drop (lead blank s) s)
@@ -186,7 +181,7 @@ pub none-left : (s : List ℕ) (i : ℕ) → length s ≤ i → tokens (drop i s
 unfolding tokens
 none-left s i h = rw (drop-of-length-le s h) refl
 
--- the byte there is none
+-- and the byte there is none
 pub no-blank : (s : List ℕ) (at : ℕ) → skipped s at < length s → blank (getD s (skipped s at) 0) ≡ false
 unfolding skipped
 no-blank s at h = rw (← getD-drop at s (lead blank (drop at s)) 0) (stands blank (drop at s) (omega (arith, length-drop at s)))

@@ -1,28 +1,27 @@
 -- What an answer tells: the token that stands next, and that the tokens after it are those of the text from the position after it on.
-use Prim.Native.Nat.{ℕ, suc, _+_, _-_, _<_, _≤_, _^_}
+use Prim.Native.Nat.{ℕ, suc, _-_, _<_, _≤_, _^_}
 use mathlib.Core.Path.{_≡_, refl, sym, ap, _∙_}
 use mathlib.Core.Bool.{Bool, true, false}
 use mathlib.Core.List.{List, [], _∷_}
 use mathlib.Core.Option.{Option, none, some}
 use native.Mathlib.Omega.{arith}
-use lib.ListN.{length, drop, getD, length-drop, drop-of-length-le}
+use lib.ListN.{length, drop, getD, length-drop}
 use lib.Seq.{drop-cons, drop-drop}
 use lib.Dec.{leb, ltb, eqb}
 use borrow.Author.Tests.{leb-true, leb-false, ltb-true, ltb-false, eqb-true}
 use Rattle.rules.specs.Tree.{Tree, Op}
 use Rattle.rules.specs.Pool.{opOf}
-use Rattle.rules.specs.Store.{opCode}
 use Rattle.rules.proofs.Stored.{op-code, code-in}
 use Rattle.grammar.specs.Grammar.{Token, sign, number, mark}
-use Rattle.grammar.specs.Tokens.{tokens, lex, second, digit, blank, two, findOne, ones}
+use Rattle.grammar.specs.Tokens.{tokens, digit, blank, two, findOne, ones}
 use Rattle.grammar.specs.Reading.{Outcome, got, bad, past}
 use Rattle.tokens.specs.declared.Next.{Next}
 use Rattle.tokens.specs.declared.Next.the-variants.{End, Sign, Number, Huge, Mark}
 use Rattle.tokens.specs.declared.After.{After}
 use Rattle.tokens.specs.declared.After.the-variants.{At, Other}
 use Rattle.tokens.specs.Scan.{Operator, skipped, width, after, first, next, passed}
-use Rattle.grammar.proofs.Choice.{taken-if, left-if}
-use Rattle.tokens.proofs.Lexed.{lead-le, Whole, whole, same, none-left, skips, no-blank, of-digit, of-two, of-one}
+use Rattle.grammar.proofs.Choice.{left-if}
+use Rattle.tokens.proofs.Lexed.{lead-le, whole, same, none-left, skips, no-blank, of-digit, of-two, of-one}
 
 -- a text that begins with a token: the token, and the tokens after its bytes
 record Begun (s : List ℕ) : Type 0 where

@@ -37,6 +37,7 @@ const SINGLE_CODE: [u8; 3] = [12, 9, 8];
 // The rank of the operator of each code from 4 on, 1 the tightest.
 const RANK: [u8; 9] = [3, 3, 2, 2, 2, 2, 4, 5, 1];
 
+// The rank of an operator.
 pub fn rank_of(c: u8) -> u8
     requires { ⌜ Operator c ⌝ }
     ensures { λ r. ⌜ r ≡ rank (opOf c) ⌝ }
@@ -133,6 +134,7 @@ fn is_digit(b: u8) -> bool
     b <= b'9'
 }
 
+// The token that stands next.
 pub fn token_at(s: &[u8], at: usize) -> Next
     ensures { λ r. ⌜ r ≡ next (now (s .entry)) at ⌝ }
 {

@@ -1,5 +1,5 @@
 -- Each blank is passed; the measure is the bytes left.
-use Rattle.tokens.proofs.Lexed.{skip-end, skip-space, skip-tab, skip-stop}
+use Rattle.tokens.proofs.Lexed.{skip-end, skip-blank, skip-stop}
 use lib.ListN.{length}
 use borrow.Author.Needs.{needs}
 use native.Mathlib.Omega.{arith}
@@ -39,7 +39,7 @@ skip-skip-requires :
 skip-skip-requires t c κs = search needs
 
 skip-returns-2 : (t : ℕ) → skip-lts.Need-returns-2 (R-skip t) (skip-at t) skip.Post
-skip-returns-2 t c = skip-space _ _ (omega arith) (c .before .if2 .taken) (c .skip .ensures)
+skip-returns-2 t c = skip-blank _ _ (omega arith) (rw (c .before .if2 .taken)) (c .skip .ensures)
 
 skip-add-skip-2 :
     (t : ℕ) → skip-lts.Need-add-skip-2 (R-skip t) (skip-at t) skip.Post
@@ -50,7 +50,7 @@ skip-skip-requires-2 :
 skip-skip-requires-2 t c κs = search needs
 
 skip-returns-3 : (t : ℕ) → skip-lts.Need-returns-3 (R-skip t) (skip-at t) skip.Post
-skip-returns-3 t c = skip-tab _ _ (omega arith) (c .before .if3 .taken) (c .skip2 .ensures)
+skip-returns-3 t c = skip-blank _ _ (omega arith) (rw (c .before .if3 .taken)) (c .skip2 .ensures)
 
 skip-returns-4 : (t : ℕ) → skip-lts.Need-returns-4 (R-skip t) (skip-at t) skip.Post
 skip-returns-4 t c = skip-stop _ _ (omega arith) (c .before .if2 .left) (c .if3 .left)
