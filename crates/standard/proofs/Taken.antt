@@ -45,8 +45,8 @@ module _ {l : ℕ} {s : List ℕ} {at k : ℕ} {P Q : Pool} where
   pub answered : {x y : Part} → LevelWrote l s at k P Q x → x ≡ y → LevelWrote l s at k P Q y
   answered w e = rw (← e) w
 
-  pub gave : {m q : ℕ} → LevelWrote l s at k P Q (Got m q) → (k < m) × (at + m ≤ q + k) × (q ≤ length s)
-  gave w = let g = level-taken w in omega (arith, g .free, g .further, g .within, size-pos (g .t))
+  pub gave : {x : Part} {m q : ℕ} → LevelWrote l s at k P Q x → x ≡ Got m q → (k < m) × (at + m ≤ q + k) × (q ≤ length s)
+  gave w e = let g = level-taken (answered w e) in omega (arith, g .free, g .further, g .within, size-pos (g .t))
 
 -- a tree that was taken stands before what is read next
 pub stands : {o : Outcome} {s : List ℕ} {at k : ℕ} {P Q : Pool} {m q : ℕ} (g : Taken o s at k P Q m q) → Before (g .t) at q k m P Q

@@ -69,7 +69,7 @@ below-requires-2 t c κs =
     let c14 = c5 .before .before .before .before .before .before .before .before .before in
     let s : St t = c14 .before .before .before .before in
     let a = (signed _ _ (c14 .before .before .token-at .ensures) (c14 .x .given .1)) .step in
-    let b = gave (answered (c5 .before .before .read-level .ensures) (c5 .right .given .1)) in
+    let b = gave (c5 .before .before .read-level .ensures) (c5 .right .given .1) in
     omega (arith, s .pre, a .further, a .within, b .0, b .1, b .2)
 
 pub put-requires : (t : ℕ) → lts.Need-put-requires (Claimed t) (read-more-at t) read-more.Post
@@ -78,7 +78,7 @@ put-requires t c κs =
     let c15 = c6 .before .before .before .before .before .before .before .before .before in
     let s : St t = c15 .before .before .before .before in
     let a = (signed _ _ (c15 .before .before .token-at .ensures) (c15 .x .given .1)) .step in
-    let b = gave (answered (c6 .before .before .read-level .ensures) (c6 .right .given .1)) in
+    let b = gave (c6 .before .before .read-level .ensures) (c6 .right .given .1) in
     omega (arith, s .pre, a .further, a .within, b .0, b .1, b .2)
 
 pub add-read-more : (t : ℕ) → lts.Need-add-read-more (Claimed t) (read-more-at t) read-more.Post
@@ -87,7 +87,7 @@ add-read-more t c =
     let c19 = c10 .before .before .before .before .before .before .before .before .before in
     let s : St t = c19 .before .before .before .before in
     let a = (signed _ _ (c19 .before .before .token-at .ensures) (c19 .x .given .1)) .step in
-    let b = gave (answered (c10 .before .before .read-level .ensures) (c10 .right .given .1)) in
+    let b = gave (c10 .before .before .read-level .ensures) (c10 .right .given .1) in
     omega (arith, s .pre, a .further, a .within, b .0, b .1, b .2)
 
 pub read-more-requires : (t : ℕ) → lts.Need-read-more-requires (Claimed t) (read-more-at t) read-more.Post
@@ -96,7 +96,7 @@ read-more-requires t c κs =
     let c19 = c10 .before .before .before .before .before .before .before .before .before in
     let s : St t = c19 .before .before .before .before in
     let a = (signed _ _ (c19 .before .before .token-at .ensures) (c19 .x .given .1)) .step in
-    let b = gave (answered (c10 .before .before .read-level .ensures) (c10 .right .given .1)) in
+    let b = gave (c10 .before .before .read-level .ensures) (c10 .right .given .1) in
     omega (arith, s .pre, a .further, a .within, b .0, b .1, b .2)
 
 pub enum-known-x-2 : (t : ℕ) → lts.Need-enum-known-x-2 (Claimed t) (read-more-at t) read-more.Post
@@ -154,7 +154,7 @@ read-level-requires-3 t c κs =
     let c17 = c8 .before .before .before .before .before .before .before .before .before in
     let s : St t = c17 .before .before .before .before in
     let a = (marked _ _ (c17 .before .before .token-at .ensures) (c17 .x2 .given .1)) in
-    let b = gave (answered (c8 .before .before .read-level2 .ensures) (c8 .middle .given .1)) in
+    let b = gave (c8 .before .before .read-level2 .ensures) (c8 .middle .given .1) in
     let d = (got-past _ _ _ (c4 .before .before .past .ensures) (c4 .colon .given .1)) in
     omega (arith, s .pre, a .further, a .within, b .0, b .1, b .2, d .further, d .within)
 
@@ -185,9 +185,9 @@ below-requires-4 t c κs =
     let c25 = c16 .before .before .before .before .before .before .before .before .before in
     let s : St t = c25 .before .before .before .before in
     let a = (marked _ _ (c25 .before .before .token-at .ensures) (c25 .x2 .given .1)) in
-    let b = gave (answered (c16 .before .before .read-level2 .ensures) (c16 .middle .given .1)) in
+    let b = gave (c16 .before .before .read-level2 .ensures) (c16 .middle .given .1) in
     let d = (got-past _ _ _ (c12 .before .before .past .ensures) (c12 .colon .given .1)) in
-    let e = gave (answered (c5 .before .before .read-level3 .ensures) (c5 .last .given .1)) in
+    let e = gave (c5 .before .before .read-level3 .ensures) (c5 .last .given .1) in
     omega (arith, s .pre, a .further, a .within, b .0, b .1, b .2, d .further, d .within, e .0, e .1, e .2)
 
 pub below-requires-5 : (t : ℕ) → lts.Need-below-requires-5 (Claimed t) (read-more-at t) read-more.Post
@@ -198,9 +198,9 @@ below-requires-5 t c κs =
     let c26 = c17 .before .before .before .before .before .before .before .before .before in
     let s : St t = c26 .before .before .before .before in
     let a = (marked _ _ (c26 .before .before .token-at .ensures) (c26 .x2 .given .1)) in
-    let b = gave (answered (c17 .before .before .read-level2 .ensures) (c17 .middle .given .1)) in
+    let b = gave (c17 .before .before .read-level2 .ensures) (c17 .middle .given .1) in
     let d = (got-past _ _ _ (c13 .before .before .past .ensures) (c13 .colon .given .1)) in
-    let e = gave (answered (c6 .before .before .read-level3 .ensures) (c6 .last .given .1)) in
+    let e = gave (c6 .before .before .read-level3 .ensures) (c6 .last .given .1) in
     omega (arith, s .pre, a .further, a .within, b .0, b .1, b .2, d .further, d .within, e .0, e .1, e .2)
 
 pub put-requires-2 : (t : ℕ) → lts.Need-put-requires-2 (Claimed t) (read-more-at t) read-more.Post
@@ -211,9 +211,9 @@ put-requires-2 t c κs =
     let c27 = c18 .before .before .before .before .before .before .before .before .before in
     let s : St t = c27 .before .before .before .before in
     let a = (marked _ _ (c27 .before .before .token-at .ensures) (c27 .x2 .given .1)) in
-    let b = gave (answered (c18 .before .before .read-level2 .ensures) (c18 .middle .given .1)) in
+    let b = gave (c18 .before .before .read-level2 .ensures) (c18 .middle .given .1) in
     let d = (got-past _ _ _ (c14 .before .before .past .ensures) (c14 .colon .given .1)) in
-    let e = gave (answered (c7 .before .before .read-level3 .ensures) (c7 .last .given .1)) in
+    let e = gave (c7 .before .before .read-level3 .ensures) (c7 .last .given .1) in
     omega (arith, s .pre, a .further, a .within, b .0, b .1, b .2, d .further, d .within, e .0, e .1, e .2)
 
 pub add-t57 : (t : ℕ) → lts.Need-add-t57 (Claimed t) (read-more-at t) read-more.Post
@@ -224,9 +224,9 @@ add-t57 t c =
     let c28 = c19 .before .before .before .before .before .before .before .before .before in
     let s : St t = c28 .before .before .before .before in
     let a = (marked _ _ (c28 .before .before .token-at .ensures) (c28 .x2 .given .1)) in
-    let b = gave (answered (c19 .before .before .read-level2 .ensures) (c19 .middle .given .1)) in
+    let b = gave (c19 .before .before .read-level2 .ensures) (c19 .middle .given .1) in
     let d = (got-past _ _ _ (c15 .before .before .past .ensures) (c15 .colon .given .1)) in
-    let e = gave (answered (c8 .before .before .read-level3 .ensures) (c8 .last .given .1)) in
+    let e = gave (c8 .before .before .read-level3 .ensures) (c8 .last .given .1) in
     omega (arith, s .pre, a .further, a .within, b .0, b .1, b .2, d .further, d .within, e .0, e .1, e .2)
 
 pub enum-told-5 : (t : ℕ) → lts.Need-enum-told-5 (Claimed t) (read-more-at t) read-more.Post

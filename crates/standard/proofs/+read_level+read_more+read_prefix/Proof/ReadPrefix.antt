@@ -70,7 +70,7 @@ below-requires t c κs =
     let c13 = c4 .before .before .before .before .before .before .before .before .before in
     let s : St t = c13 .before .before .before .before in
     let a = (marked _ _ (c13 .before .before .token-at .ensures) (c13 .x .given .1)) in
-    let b = gave (answered (c4 .before .before .read-level .ensures) (c4 .negated .given .1)) in
+    let b = gave (c4 .before .before .read-level .ensures) (c4 .negated .given .1) in
     omega (arith, s .pre, a .further, a .within, b .0, b .1, b .2)
 
 pub put-requires-2 : (t : ℕ) → lts.Need-put-requires-2 (Claimed t) (read-prefix-at t) read-prefix.Post
@@ -79,7 +79,7 @@ put-requires-2 t c κs =
     let c14 = c5 .before .before .before .before .before .before .before .before .before in
     let s : St t = c14 .before .before .before .before in
     let a = (marked _ _ (c14 .before .before .token-at .ensures) (c14 .x .given .1)) in
-    let b = gave (answered (c5 .before .before .read-level .ensures) (c5 .negated .given .1)) in
+    let b = gave (c5 .before .before .read-level .ensures) (c5 .negated .given .1) in
     omega (arith, s .pre, a .further, a .within, b .0, b .1, b .2)
 
 pub add-t37 : (t : ℕ) → lts.Need-add-t37 (Claimed t) (read-prefix-at t) read-prefix.Post
@@ -88,7 +88,7 @@ add-t37 t c =
     let c15 = c6 .before .before .before .before .before .before .before .before .before in
     let s : St t = c15 .before .before .before .before in
     let a = (marked _ _ (c15 .before .before .token-at .ensures) (c15 .x .given .1)) in
-    let b = gave (answered (c6 .before .before .read-level .ensures) (c6 .negated .given .1)) in
+    let b = gave (c6 .before .before .read-level .ensures) (c6 .negated .given .1) in
     omega (arith, s .pre, a .further, a .within, b .0, b .1, b .2)
 
 pub returns-3 : (t : ℕ) → lts.Need-returns-3 (Claimed t) (read-prefix-at t) read-prefix.Post
