@@ -18,7 +18,8 @@ use Rattle.grammar.specs.Tokens.{tokens, lex, digits, second, digit, blank, two
 use Rattle.tokens.specs.declared.Next.{Next}
 use Rattle.tokens.specs.declared.Next.the-variants.{End, Sign, Number, Huge, Mark}
 use Rattle.tokens.specs.declared.After.the-variants.{At, Other}
-use Rattle.tokens.specs.Scan.{codeOf, signOf, pairFrom, singleFrom, lead, skipped, width, after, first, next, ran, passed}
+use Rattle.tokens.specs.Scan.{lead, skipped, width, after, first, next, passed}
+use Rattle.tokens.specs.Promise.{codeOf, signOf, pairFrom, singleFrom, ran}
 use Rattle.grammar.proofs.Choice.{taken-if, left-if, both}
 use Rattle.tokens.proofs.Rows.{past-end}
 

@@ -15,7 +15,8 @@ use Rattle.rules.specs.Pool.{opOf, opAt, operators}
 use Rattle.rules.specs.Store.{opCode}
 use Rattle.grammar.specs.Grammar.{sign, rank}
 use Rattle.grammar.specs.Tokens.{findTwo, twos, findOne, ones}
-use Rattle.tokens.specs.Scan.{Operator, codeOf, signOf, pairFrom, singleFrom}
+use Rattle.tokens.specs.Scan.{Operator}
+use Rattle.tokens.specs.Promise.{codeOf, signOf, pairFrom, singleFrom}
 use Rattle.tokens.proofs.Table.{every, entry}
 use Rattle.grammar.proofs.Choice.{taken-if, left-if, both, all-true, last-false}
 

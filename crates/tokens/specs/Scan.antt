@@ -1,16 +1,15 @@
--- What the functions that read tokens promise: the first of the tokens of the text from a position on (grammar's specs/Tokens.antt; document
+-- The token that stands next: the first of the tokens of the text from a position on (grammar's specs/Tokens.antt; document
 -- 01, "Two readings of a rule"), and the position after it.
 use Prim.Native.Nat.{ℕ, suc, _+_, _<_, _≤_, _^_}
 use mathlib.Core.Bool.{Bool, true, false}
 use mathlib.Core.List.{List, [], _∷_}
-use mathlib.Core.Option.{Option, none, some}
+use mathlib.Core.Option.{none, some}
 use lib.ListN.{length, drop}
 use lib.Dec.{ltb, eqb}
-use Rattle.rules.specs.Tree.{Op}
 use Rattle.rules.specs.Pool.{operators}
 use Rattle.rules.specs.Store.{opCode}
 use Rattle.grammar.specs.Grammar.{Token, sign, number, mark}
-use Rattle.grammar.specs.Tokens.{tokens, lex, digits, digit, blank, two, findTwo, twos, findOne, ones}
+use Rattle.grammar.specs.Tokens.{tokens, digit, blank, two}
 use Rattle.tokens.specs.declared.Next.{Next}
 use Rattle.tokens.specs.declared.Next.the-variants.{End, Sign, Number, Huge, Mark}
 use Rattle.tokens.specs.declared.After.{After}
@@ -20,23 +19,6 @@ use Rattle.tokens.specs.declared.After.the-variants.{At, Other}
 pub record Operator (c : ℕ) : Type 0 where
   pub low : 4 ≤ c
   pub high : c < 4 + length operators
-
--- the code of an operator that was found, or 0
-abbrev pub codeOf : Option Op → ℕ
-codeOf (some op) = opCode op
-codeOf none = 0
-
-abbrev pub signOf : Token → Option Op
-signOf (sign op) = some op
-signOf (number v) = none
-signOf (mark b) = none
-
--- the code of the operator that two bytes are, among the rows from i on, and the same of one byte
-unfoldable pub pairFrom : ℕ → ℕ → ℕ → ℕ
-pairFrom i b c = codeOf (findTwo (drop i twos) b c)
-
-unfoldable pub singleFrom : ℕ → ℕ → ℕ
-singleFrom i b = codeOf (signOf (findOne (drop i ones) b))
 
 -- how many bytes in front pass a test
 unfoldable pub lead : (ℕ → Bool) → List ℕ → ℕ
@@ -66,10 +48,6 @@ first (mark b ∷ r) e = Mark b e
 -- the token that stands next
 unfoldable pub next : List ℕ → ℕ → Next
 next s at = first (tokens (drop at s)) (after s at)
-
--- the integer whose digits before at are v
-unfoldable pub ran : ℕ → List ℕ → ℕ → Next
-ran v s at = first (lex (digits v) (drop at s)) (at + lead digit (drop at s))
 
 -- the position after the byte c, if it is next
 abbrev pub passed : ℕ → Next → After

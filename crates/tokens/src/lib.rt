@@ -5,7 +5,8 @@ ghost use lib.ListN.{getD};
 ghost use Rattle.rules.specs.Pool.{opOf};
 ghost use Rattle.grammar.specs.Grammar.{rank};
 ghost use Rattle.grammar.specs.Tokens.{digit};
-ghost use Rattle.tokens.specs.Scan.{Operator, pairFrom, singleFrom, skipped, ran, next, passed};
+ghost use Rattle.tokens.specs.Scan.{Operator, skipped, next, passed};
+ghost use Rattle.tokens.specs.Promise.{pairFrom, singleFrom, ran};
 
 // The next token and the position after it: an operator by its code, an integer of 64 bits or Huge, or any other byte.
 pub enum Next {
