@@ -14,8 +14,7 @@ use Rattle.rules.specs.Store.{size, store, push, opCode}
 use Rattle.grammar.specs.Grammar.{Token, sign, number, mark, rank, loosest, full}
 use Rattle.grammar.specs.Tokens.{tokens}
 use Rattle.grammar.specs.Reading.{got, andThen, past, Level, More}
-use Rattle.standard.specs.declared.After.the-variants.{Other}
-use Rattle.standard.specs.Scan.{Step, Passed}
+use Rattle.tokens.proofs.Nexts.{Step, NotNext}
 use Rattle.grammar.proofs.Steps.{level-zero, level-suc, more-nil, more-number, more-sign, more-mark}
 use Rattle.standard.specs.declared.Part.{Part}
 use Rattle.standard.specs.declared.Part.the-variants.{Got, Bad}
@@ -107,10 +106,10 @@ module _ {s : List ℕ} {j at m : ℕ} {P : Pool} where
   pub ask-bad : {b e : ℕ} {R Q : Pool} → Step s at (mark b) e → b ≡ 63 → j ≡ loosest → LevelWrote full s e m P R Bad → MoreWrote j s at m P Q Bad
   ask-bad {b} {e} w i f v = record { read = λ t h k O d. rw (w .is, asks t (tokens (drop e s)) i f, level-refused v) refl }
 
-  pub ask-open : {b e v i : ℕ} {R Q : Pool} → Step s at (mark b) e → b ≡ 63 → j ≡ loosest → LevelWrote full s e m P R (Got v i) → Passed 58 s i Other → MoreWrote j s at m P Q Bad
+  pub ask-open : {b e v i : ℕ} {R Q : Pool} → Step s at (mark b) e → b ≡ 63 → j ≡ loosest → LevelWrote full s e m P R (Got v i) → NotNext 58 s i → MoreWrote j s at m P Q Bad
   ask-open {b} {e} w z f a p =
       let g = level-taken a in
-      record { read = λ t h k O d. rw (w .is, asks t (tokens (drop e s)) z f, g .is, p (g .t) (λ u q. andThen (Level full q) (λ v w. got (cond t u v) w))) refl }
+      record { read = λ t h k O d. rw (w .is, asks t (tokens (drop e s)) z f, g .is, p .ends (g .t) (λ u q. andThen (Level full q) (λ v w. got (cond t u v) w))) refl }
 
   pub ask-last : {b e v i p : ℕ} {R S Q : Pool} → Step s at (mark b) e → b ≡ 63 → j ≡ loosest → LevelWrote full s e m P R (Got v i) → Step s i (mark 58) p
       → LevelWrote full s p v R S Bad → MoreWrote j s at m P Q Bad

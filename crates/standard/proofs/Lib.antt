@@ -1,7 +1,3 @@
-mod Table
-mod Rows
-mod Lexed
-mod Nexts
 mod Taken
 mod Levels
 mod Prefixes

@@ -11,8 +11,7 @@ use Rattle.rules.specs.Store.{size, store, push}
 use Rattle.grammar.specs.Grammar.{Token, sign, number, mark, full}
 use Rattle.grammar.specs.Tokens.{tokens}
 use Rattle.grammar.specs.Reading.{got, bad, Prefix}
-use Rattle.standard.specs.declared.After.the-variants.{Other}
-use Rattle.standard.specs.Scan.{Step, HugeAt, Passed}
+use Rattle.tokens.proofs.Nexts.{Step, HugeAt, NotNext}
 use Rattle.grammar.proofs.Steps.{level-zero, prefix-nil, prefix-sign, prefix-number, prefix-mark}
 use Rattle.standard.specs.declared.Part.the-variants.{Got, Bad}
 use Rattle.standard.specs.Wrote.{Done, LevelWrote, PrefixWrote}
@@ -76,10 +75,10 @@ module _ {s : List ℕ} {at k : ℕ} {P Q : Pool} where
   pub bracket-bad : {b e : ℕ} {R : Pool} → Step s at (mark b) e → b ≡ 40 → LevelWrote full s e k P R Bad → PrefixWrote s at k P Q Bad
   bracket-bad {b} {e} w i v = record { read = rw (w .is, i, prefix-mark 40 (tokens (drop e s)), level-refused v) refl }
 
-  pub bracket-open : {b e m q : ℕ} {R : Pool} → Step s at (mark b) e → b ≡ 40 → LevelWrote full s e k P R (Got m q) → Passed 41 s q Other → PrefixWrote s at k P Q Bad
+  pub bracket-open : {b e m q : ℕ} {R : Pool} → Step s at (mark b) e → b ≡ 40 → LevelWrote full s e k P R (Got m q) → NotNext 41 s q → PrefixWrote s at k P Q Bad
   bracket-open {b} {e} w i v y =
       let g = level-taken v in
-      record { read = rw (w .is, i, prefix-mark 40 (tokens (drop e s)), g .is, y (g .t) (λ t r. got t r)) refl }
+      record { read = rw (w .is, i, prefix-mark 40 (tokens (drop e s)), g .is, y .ends (g .t) (λ t r. got t r)) refl }
 
   pub bracket : {b e m q p : ℕ} → Step s at (mark b) e → b ≡ 40 → LevelWrote full s e k P Q (Got m q) → Step s q (mark 41) p → PrefixWrote s at k P Q (Got m p)
   bracket {b} {e} {m} {q} {p} w i v y =

@@ -4,22 +4,15 @@ use mathlib.Core.Path.{_≡_, refl, ap, _∙_}
 use mathlib.Core.List.{List}
 use native.Mathlib.Omega.{arith}
 use lib.ListN.{length, drop}
-use Rattle.rules.specs.Tree.{Tree, var, int, nay, bin, cond}
+use Rattle.rules.specs.Tree.{Tree}
 use Rattle.rules.specs.Pool.{Pool}
 use Rattle.rules.specs.Store.{size, store}
+use Rattle.rules.proofs.Stored.{size-pos}
 use Rattle.grammar.specs.Tokens.{tokens}
 use Rattle.grammar.specs.Reading.{Outcome, got, bad, Level}
 use Rattle.standard.specs.declared.Part.{Part}
 use Rattle.standard.specs.declared.Part.the-variants.{Got, Bad}
 use Rattle.standard.specs.Wrote.{Wrote, Before, LevelWrote}
-
-pub size-pos : (t : Tree) → 0 < size t
-unfolding size
-size-pos var = omega arith
-size-pos (int v) = omega arith
-size-pos (nay t) = omega arith
-size-pos (bin op s t) = omega arith
-size-pos (cond s t u) = omega arith
 
 -- what an outcome is, by the answer
 pub record Taken (o : Outcome) (s : List ℕ) (at k : ℕ) (P Q : Pool) (m q : ℕ) : Type 0 where
@@ -52,8 +45,8 @@ module _ {l : ℕ} {s : List ℕ} {at k : ℕ} {P Q : Pool} where
   pub answered : {x y : Part} → LevelWrote l s at k P Q x → x ≡ y → LevelWrote l s at k P Q y
   answered w e = rw (← e) w
 
-  pub gave : {m q : ℕ} → LevelWrote l s at k P Q (Got m q) → (k < m) × (at + m ≤ q + k) × (q ≤ length s)
-  gave w = let g = level-taken w in omega (arith, g .free, g .further, g .within, size-pos (g .t))
+  pub gave : {x : Part} {m q : ℕ} → LevelWrote l s at k P Q x → x ≡ Got m q → (k < m) × (at + m ≤ q + k) × (q ≤ length s)
+  gave w e = let g = level-taken (answered w e) in omega (arith, g .free, g .further, g .within, size-pos (g .t))
 
 -- a tree that was taken stands before what is read next
 pub stands : {o : Outcome} {s : List ℕ} {at k : ℕ} {P Q : Pool} {m q : ℕ} (g : Taken o s at k P Q m q) → Before (g .t) at q k m P Q

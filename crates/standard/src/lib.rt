@@ -1,190 +1,26 @@
-// The Standard reading of a plural rule, by recursive descent over its bytes; the nodes are appended to lent arrays, each operand
-// before its parent. The operators are rows of tables. A level is the binary operators of one rank, counted from the tightest; ?:
-// stands above the loosest.
+// The Standard reading of a plural rule, by recursive descent over its tokens; the nodes are appended to lent arrays, each operand
+// before its parent. A level is the binary operators of one rank, counted from the tightest; ?: stands above the loosest.
 use rules::Nodes;
 use rules::put;
+use tokens::After;
+use tokens::Next;
+use tokens::past;
+use tokens::rank_of;
+use tokens::token_at;
 ghost use mathlib.Core.Path.{_≡_};
 ghost use Prim.Native.Nat.{_<_, _≤_, _-_};
-ghost use lib.ListN.{length, getD};
-ghost use Rattle.rules.specs.Pool.{pool, opOf};
-ghost use Rattle.grammar.specs.Grammar.{rank, full};
-ghost use Rattle.grammar.specs.Tokens.{digit};
-ghost use Rattle.standard.specs.Scan.{Operator, NextRead, PassRead, Skipped, RunRead, PairRead, SingleRead};
+ghost use lib.ListN.{length};
+ghost use Rattle.rules.specs.Pool.{pool};
+ghost use Rattle.grammar.specs.Grammar.{full};
 ghost use Rattle.standard.specs.Wrote.{Room, LevelWrote, MoreWrote, PrefixWrote};
 ghost use Rattle.rules.specs.Reads.{Answered};
 ghost use Rattle.grammar.specs.Reading.{standard};
-
-// The next token and the position after it: an operator by its code, an integer of 64 bits or Huge, or any other byte.
-enum Next {
-    End,
-    Sign(u8, usize),
-    Number(u64, usize),
-    Huge,
-    Mark(u8, usize),
-}
-
-// The position after a byte that had to come next.
-enum After {
-    At(usize),
-    Other,
-}
-
-// The operators of two bytes: first byte, second byte, code.
-const FIRST: [u8; 6] = [b'=', b'!', b'<', b'>', b'&', b'|'];
-
-const SECOND: [u8; 6] = [b'=', b'=', b'=', b'=', b'&', b'|'];
-
-const PAIR_CODE: [u8; 6] = [4, 5, 7, 6, 10, 11];
-
-// The operators of one byte: byte, code.
-const SINGLE: [u8; 3] = [b'%', b'<', b'>'];
-
-const SINGLE_CODE: [u8; 3] = [12, 9, 8];
-
-// The rank of the operator of each code from 4 on, 1 the tightest.
-const RANK: [u8; 9] = [3, 3, 2, 2, 2, 2, 4, 5, 1];
 
 // The loosest rank; ?: stands after texts of this level.
 const LOOSEST: u8 = 5;
 
 // The level of a whole rule.
 const FULL: u8 = 6;
-
-fn rank_of(c: u8) -> u8
-    requires { ⌜ Operator c ⌝ }
-    ensures { λ r. ⌜ r ≡ rank (opOf c) ⌝ }
-{
-    RANK[(c - 4) as usize]
-}
-
-// The code of the operator that two bytes are, among the rows from i on; 0 for none.
-fn pair(b: u8, c: u8, i: usize) -> u8
-    ensures { λ r. ⌜ PairRead i b c r ⌝ }
-{
-    if i >= 6 {
-        return 0;
-    }
-    if b != FIRST[i] {
-        return pair(b, c, i + 1);
-    }
-    if c != SECOND[i] {
-        return pair(b, c, i + 1);
-    }
-    PAIR_CODE[i]
-}
-
-// The same of one byte.
-fn single(b: u8, i: usize) -> u8
-    ensures { λ r. ⌜ SingleRead i b r ⌝ }
-{
-    if i >= 3 {
-        return 0;
-    }
-    if b != SINGLE[i] {
-        return single(b, i + 1);
-    }
-    SINGLE_CODE[i]
-}
-
-// Past the blanks.
-fn skip(s: &[u8], at: usize) -> usize
-    requires { ⌜ at ≤ length (now s) ⌝ }
-    ensures { λ r. ⌜ Skipped (now (s .entry)) at r ⌝ }
-{
-    if at >= s.len() {
-        return at;
-    }
-    let b = s[at];
-    if b == b' ' {
-        return skip(s, at + 1);
-    }
-    if b == b'\t' {
-        return skip(s, at + 1);
-    }
-    at
-}
-
-fn wide(b: u8) -> u64
-    ensures { λ r. ⌜ r ≡ b ⌝ }
-{
-    b as u64
-}
-
-// The rest of an integer whose digits so far are v.
-fn run(s: &[u8], at: usize, v: u64) -> Next
-    requires { ⌜ at ≤ length (now s) ⌝ }
-    ensures { λ r. ⌜ RunRead v (now (s .entry)) at r ⌝ }
-{
-    if at >= s.len() {
-        return Next::Number(v, at);
-    }
-    let b = s[at];
-    if b < b'0' {
-        return Next::Number(v, at);
-    }
-    if b > b'9' {
-        return Next::Number(v, at);
-    }
-    let d = wide(b - b'0');
-    if v > (18446744073709551615 - d) / 10 {
-        return Next::Huge;
-    }
-    run(s, at + 1, 10 * v + d)
-}
-
-// The byte at a position, 0 past the end.
-fn peek(s: &[u8], at: usize) -> u8
-    ensures { λ r. ⌜ r ≡ getD (now (s .entry)) at 0 ⌝ }
-{
-    if at < s.len() { s[at] } else { 0 }
-}
-
-fn is_digit(b: u8) -> bool
-    ensures { λ r. ⌜ r ≡ digit b ⌝ }
-{
-    if b < b'0' {
-        return false;
-    }
-    b <= b'9'
-}
-
-fn token_at(s: &[u8], at: usize) -> Next
-    requires { ⌜ at ≤ length (now s) ⌝ }
-    ensures { λ r. ⌜ NextRead (now (s .entry)) at r ⌝ }
-{
-    let i = skip(s, at);
-    if i >= s.len() {
-        return Next::End;
-    }
-    let b = s[i];
-    if is_digit(b) {
-        return run(s, i + 1, wide(b - b'0'));
-    }
-    let two = pair(b, peek(s, i + 1), 0);
-    if two != 0 {
-        return Next::Sign(two, i + 2);
-    }
-    let one = single(b, 0);
-    if one != 0 {
-        return Next::Sign(one, i + 1);
-    }
-    Next::Mark(b, i + 1)
-}
-
-// Past a byte that has to come next.
-fn past(s: &[u8], at: usize, c: u8) -> After
-    requires { ⌜ at ≤ length (now s) ⌝ }
-    ensures { λ r. ⌜ PassRead c (now (s .entry)) at r ⌝ }
-{
-    let x = token_at(s, at);
-    match x {
-        Next::Mark(b, e) => { if b == c { After::At(e) } else { After::Other } }
-        Next::Number(v, e) => After::Other,
-        Next::Sign(o, e) => After::Other,
-        Next::End => After::Other,
-        Next::Huge => After::Other,
-    }
-}
 
 // The next free place and the position after what was read, or no reading.
 enum Part {

@@ -43,7 +43,7 @@ read-more-requires t c κs =
     let c4 = c .before .before .before .before in
     let c10 = c4 .before .before .before .before .before .before in
     let s : St t = c10 .before .before in
-    let a = gave (answered (c4 .before .before .read-level .ensures) (c4 .first .given .1)) in
+    let a = gave (c4 .before .before .read-level .ensures) (c4 .first .given .1) in
     omega (arith, s .pre, c10 .if1 .left, a .0, a .1, a .2)
 
 pub returns-3 : (t : ℕ) → lts.Need-returns-3 (Claimed t) (read-level-at t) read-level.Post

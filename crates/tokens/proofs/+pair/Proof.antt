@@ -2,15 +2,15 @@
 use lib.ListN.{length}
 use borrow.Author.Needs.{needs}
 use native.Mathlib.Omega.{arith}
-use Rattle.standard.proofs.Rows.{firsts, pair-end, pair-first, pair-second, pair-here}
+use Rattle.tokens.proofs.Rows.{firsts, pair-end, pair-first, pair-second, pair-here}
 use Prim.Native.Nat.{ℕ, _<_, _-_}
 use borrow.Fn.Kinds.{In}
 use borrow.Fn.PlainCycle.{Measures, is, falls, and}
-use Rattle.standard.proofs.pair.Reads as pair
-use Rattle.standard.proofs.pair.Kinds as pair-kinds
-use Rattle.standard.proofs.+pair.Lts-pair as pair-lts
-use Rattle.standard.proofs.+pair.{statement}
-use Rattle.standard.proofs.+pair.Tie.{close}
+use Rattle.tokens.proofs.pair.Reads as pair
+use Rattle.tokens.proofs.pair.Kinds as pair-kinds
+use Rattle.tokens.proofs.+pair.Lts-pair as pair-lts
+use Rattle.tokens.proofs.+pair.{statement}
+use Rattle.tokens.proofs.+pair.Tie.{close}
 
 abbrev μ-pair : Measures 0 pair-kinds.ps ℕ
 μ-pair κs a = length firsts - a .1 .1 .0
@@ -25,7 +25,7 @@ abbrev R-pair : ℕ → pair-lts.Claims
 R-pair t = (pair-below t, pair.Post)
 
 pair-returns : (t : ℕ) → pair-lts.Need-returns (R-pair t) (pair-at t) pair.Post
-pair-returns t c = pair-end (c .if1 .taken)
+pair-returns t c = pair-end _ _ _ (c .if1 .taken)
 
 pair-array-read-if2 :
     (t : ℕ) → pair-lts.Need-array-read-if2 (R-pair t) (pair-at t) pair.Post
@@ -39,7 +39,7 @@ pair-pair-requires :
 pair-pair-requires t c κs = search needs
 
 pair-returns-2 : (t : ℕ) → pair-lts.Need-returns-2 (R-pair t) (pair-at t) pair.Post
-pair-returns-2 t c = pair-first (omega arith) (c .before .if2 .taken) (c .pair .ensures)
+pair-returns-2 t c = pair-first _ _ _ (omega arith) (c .before .if2 .taken) (c .pair .ensures)
 
 pair-array-read-if3 :
     (t : ℕ) → pair-lts.Need-array-read-if3 (R-pair t) (pair-at t) pair.Post
@@ -54,14 +54,14 @@ pair-pair-requires-2 :
 pair-pair-requires-2 t c κs = search needs
 
 pair-returns-3 : (t : ℕ) → pair-lts.Need-returns-3 (R-pair t) (pair-at t) pair.Post
-pair-returns-3 t c = pair-second (omega arith) (c .before .if3 .taken) (c .pair2 .ensures)
+pair-returns-3 t c = pair-second _ _ _ (omega arith) (c .before .if3 .taken) (c .pair2 .ensures)
 
 pair-array-read-result :
     (t : ℕ) → pair-lts.Need-array-read-result (R-pair t) (pair-at t) pair.Post
 pair-array-read-result t c = search needs
 
 pair-returns-4 : (t : ℕ) → pair-lts.Need-returns-4 (R-pair t) (pair-at t) pair.Post
-pair-returns-4 t c = pair-here (omega arith) (c .before .if2 .left) (c .if3 .left)
+pair-returns-4 t c = pair-here _ _ _ (omega arith) (c .before .if2 .left) (c .if3 .left)
 
 pub +pair-spec : {M : Type 1} → statement M
 +pair-spec =

@@ -1,7 +1,7 @@
 -- The code's tables of operators have the rows of the definition's: the lists below are the tables of src/lib.rt, and each fact is one
 -- test computed over a whole table.
 use Prim.Native.Nat.{ℕ, zero, suc, _+_, _-_, _<_, _≤_}
-use mathlib.Core.Path.{_≡_, refl, ap, _∙_}
+use mathlib.Core.Path.{_≡_, refl, sym, ap, _∙_}
 use mathlib.Core.Bool.{Bool, true, false, not, _&&_}
 use mathlib.Core.List.{List, [], _∷_}
 use mathlib.Core.Option.{none, some}
@@ -15,8 +15,9 @@ use Rattle.rules.specs.Pool.{opOf, opAt, operators}
 use Rattle.rules.specs.Store.{opCode}
 use Rattle.grammar.specs.Grammar.{sign, rank}
 use Rattle.grammar.specs.Tokens.{findTwo, twos, findOne, ones}
-use Rattle.standard.specs.Scan.{Operator, PairRead, SingleRead}
-use Rattle.standard.proofs.Table.{every, entry}
+use Rattle.tokens.specs.Scan.{Operator}
+use Rattle.tokens.specs.Promise.{codeOf, signOf, pairFrom, singleFrom}
+use Rattle.tokens.proofs.Table.{every, entry}
 use Rattle.grammar.proofs.Choice.{taken-if, left-if, both, all-true, last-false}
 
 abbrev pub firsts : List ℕ
@@ -75,33 +76,25 @@ two-row : (i b c : ℕ) → i < length firsts → findTwo (drop i twos) b c
 unfolding opOf opAt
 two-row i b c h = ap (λ (r : List (ℕ × ℕ × Op)). findTwo r b c) (row firsts seconds pairCodes i h h h)
 
-module _ {i b c : ℕ} where
-  pub pair-end : length firsts ≤ i → PairRead i b c 0
-  pair-end h = record { none-of = λ _. rw (drop-of-length-le twos h) refl; some-of = λ n. absurd (n refl); known = λ n. absurd (n refl) }
+module _ (i b c : ℕ) where
+  pub pair-end : length firsts ≤ i → 0 ≡ pairFrom i b c
+  unfolding pairFrom
+  pair-end h = rw (drop-of-length-le twos h) refl
 
-  no-row : {r : ℕ} → i < length firsts → (eqb b (getD firsts i 0) && eqb c (getD seconds i 0)) ≡ false → PairRead (i + 1) b c r → PairRead i b c r
-  no-row {r} h e w =
-      let v : PairRead (suc i) b c r = rw add-one at w in
-      record {
-        none-of = λ z. two-row i b c h ∙ (left-if _ _ e ∙ v .none-of z);
-        some-of = λ n. two-row i b c h ∙ (left-if _ _ e ∙ v .some-of n);
-        known = w .known;
-      }
+  no-row : {r : ℕ} → i < length firsts → (eqb b (getD firsts i 0) && eqb c (getD seconds i 0)) ≡ false → r ≡ pairFrom (i + 1) b c → r ≡ pairFrom i b c
+  unfolding pairFrom
+  no-row h e w = w ∙ rw (add-one i) (sym (ap codeOf (two-row i b c h ∙ left-if _ _ e)))
 
-  pub pair-first : {r : ℕ} → i < length firsts → (b ≡ getD firsts i 0 → ⊥) → PairRead (i + 1) b c r → PairRead i b c r
+  pub pair-first : {r : ℕ} → i < length firsts → (b ≡ getD firsts i 0 → ⊥) → r ≡ pairFrom (i + 1) b c → r ≡ pairFrom i b c
   pair-first h n w = no-row h (rw (ne-eqb b (getD firsts i 0) n)) w
 
-  pub pair-second : {r : ℕ} → i < length firsts → (c ≡ getD seconds i 0 → ⊥) → PairRead (i + 1) b c r → PairRead i b c r
+  pub pair-second : {r : ℕ} → i < length firsts → (c ≡ getD seconds i 0 → ⊥) → r ≡ pairFrom (i + 1) b c → r ≡ pairFrom i b c
   pair-second h n w = no-row h (last-false (eqb b (getD firsts i 0)) (ne-eqb _ _ n)) w
 
-  pub pair-here : i < length firsts → b ≡ getD firsts i 0 → c ≡ getD seconds i 0 → PairRead i b c (getD pairCodes i 0)
+  pub pair-here : i < length firsts → b ≡ getD firsts i 0 → c ≡ getD seconds i 0 → getD pairCodes i 0 ≡ pairFrom i b c
+  unfolding pairFrom
   pair-here h e f =
-      let o = known pairCodes refl i h in
-      record {
-        none-of = λ z. absurd (omega (arith, o .low));
-        some-of = λ _. two-row i b c h ∙ taken-if _ _ (all-true (eq-eqb _ _ e) (eq-eqb _ _ f));
-        known = λ _. o;
-      }
+      sym (ap codeOf (two-row i b c h ∙ taken-if _ _ (all-true (eq-eqb _ _ e) (eq-eqb _ _ f))) ∙ code-of (known pairCodes refl i h))
 
 -- a byte that is second in no row: what stands past the end is such a one
 abbrev lacks : List (ℕ × ℕ × Op) → ℕ → Bool
@@ -134,20 +127,16 @@ one-row : (i b : ℕ) → i < length singles
 unfolding opOf opAt
 one-row i b h = ap (λ (r : List (ℕ × Op)). findOne r b) (row₁ singles singleCodes i h h)
 
-module _ {i b : ℕ} where
-  pub single-end : length singles ≤ i → SingleRead i b 0
-  single-end h = record { none-of = λ _. rw (drop-of-length-le ones h) refl; some-of = λ n. absurd (n refl); known = λ n. absurd (n refl) }
+module _ (i b : ℕ) where
+  pub single-end : length singles ≤ i → 0 ≡ singleFrom i b
+  unfolding singleFrom
+  single-end h = rw (drop-of-length-le ones h) refl
 
-  pub single-next : {r : ℕ} → i < length singles → (b ≡ getD singles i 0 → ⊥) → SingleRead (i + 1) b r → SingleRead i b r
-  single-next {r} h n w =
-      let v : SingleRead (suc i) b r = rw add-one at w in
-      record {
-        none-of = λ z. one-row i b h ∙ (left-if _ _ (ne-eqb _ _ n) ∙ v .none-of z);
-        some-of = λ m. one-row i b h ∙ (left-if _ _ (ne-eqb _ _ n) ∙ v .some-of m);
-        known = w .known;
-      }
+  pub single-next : {r : ℕ} → i < length singles → (b ≡ getD singles i 0 → ⊥) → r ≡ singleFrom (i + 1) b → r ≡ singleFrom i b
+  unfolding singleFrom
+  single-next h n w = w ∙ rw (add-one i) (sym (ap (λ t. codeOf (signOf t)) (one-row i b h ∙ left-if _ _ (ne-eqb _ _ n))))
 
-  pub single-here : i < length singles → b ≡ getD singles i 0 → SingleRead i b (getD singleCodes i 0)
+  pub single-here : i < length singles → b ≡ getD singles i 0 → getD singleCodes i 0 ≡ singleFrom i b
+  unfolding singleFrom
   single-here h e =
-      let o = known singleCodes refl i h in
-      record { none-of = λ z. absurd (omega (arith, o .low)); some-of = λ _. one-row i b h ∙ taken-if _ _ (eq-eqb _ _ e); known = λ _. o }
+      sym (ap (λ t. codeOf (signOf t)) (one-row i b h ∙ taken-if _ _ (eq-eqb _ _ e)) ∙ code-of (known singleCodes refl i h))

@@ -2,15 +2,15 @@
 use lib.ListN.{length}
 use borrow.Author.Needs.{needs}
 use native.Mathlib.Omega.{arith}
-use Rattle.standard.proofs.Rows.{singles, single-end, single-next, single-here}
+use Rattle.tokens.proofs.Rows.{singles, single-end, single-next, single-here}
 use Prim.Native.Nat.{ℕ, _<_, _-_}
 use borrow.Fn.Kinds.{In}
 use borrow.Fn.PlainCycle.{Measures, is, falls, and}
-use Rattle.standard.proofs.single.Reads as single
-use Rattle.standard.proofs.single.Kinds as single-kinds
-use Rattle.standard.proofs.+single.Lts-single as single-lts
-use Rattle.standard.proofs.+single.{statement}
-use Rattle.standard.proofs.+single.Tie.{close}
+use Rattle.tokens.proofs.single.Reads as single
+use Rattle.tokens.proofs.single.Kinds as single-kinds
+use Rattle.tokens.proofs.+single.Lts-single as single-lts
+use Rattle.tokens.proofs.+single.{statement}
+use Rattle.tokens.proofs.+single.Tie.{close}
 
 abbrev μ-single : Measures 0 single-kinds.ps ℕ
 μ-single κs a = length singles - a .1 .0
@@ -26,7 +26,7 @@ R-single t = (single-below t, single.Post)
 
 single-returns :
     (t : ℕ) → single-lts.Need-returns (R-single t) (single-at t) single.Post
-single-returns t c = single-end (c .if1 .taken)
+single-returns t c = single-end _ _ (c .if1 .taken)
 
 single-array-read-if2 :
     (t : ℕ) →
@@ -44,14 +44,14 @@ single-single-requires t c κs = search needs
 
 single-returns-2 :
     (t : ℕ) → single-lts.Need-returns-2 (R-single t) (single-at t) single.Post
-single-returns-2 t c = single-next (omega arith) (c .before .if2 .taken) (c .single .ensures)
+single-returns-2 t c = single-next _ _ (omega arith) (c .before .if2 .taken) (c .single .ensures)
 
 single-array-read-result : (t : ℕ) → single-lts.Need-array-read-result (R-single t) (single-at t) single.Post
 single-array-read-result t c = search needs
 
 single-returns-3 :
     (t : ℕ) → single-lts.Need-returns-3 (R-single t) (single-at t) single.Post
-single-returns-3 t c = single-here (omega arith) (c .if2 .left)
+single-returns-3 t c = single-here _ _ (omega arith) (c .if2 .left)
 
 pub +single-spec : {M : Type 1} → statement M
 +single-spec =

@@ -1,8 +1,8 @@
 -- The two tests are the definition's.
 use mathlib.Core.Path.{sym}
-use Rattle.standard.proofs.Lexed.{low-digit, digit-rest}
-use Rattle.standard.proofs.is_digit.Statement.{statement}
-use Rattle.standard.proofs.is_digit.Tie as tie
+use Rattle.tokens.proofs.Lexed.{low-digit, digit-rest}
+use Rattle.tokens.proofs.is_digit.Statement.{statement}
+use Rattle.tokens.proofs.is_digit.Tie as tie
 
 returns : tie.Need-returns
 returns c = sym (low-digit _ (c .if1 .taken))

@@ -2,10 +2,10 @@
 use Prim.Native.Nat.{_-_}
 use native.Mathlib.Omega.{arith}
 use Rattle.rules.specs.Pool.{opOf}
-use Rattle.standard.proofs.Rows.{ranked}
+use Rattle.tokens.proofs.Rows.{ranked}
 use borrow.Author.Needs.{needs}
-use Rattle.standard.proofs.rank_of.Statement.{statement}
-use Rattle.standard.proofs.rank_of.Tie as tie
+use Rattle.tokens.proofs.rank_of.Statement.{statement}
+use Rattle.tokens.proofs.rank_of.Tie as tie
 
 sub-result : tie.Need-sub-result
 sub-result c = search needs

@@ -1,16 +1,16 @@
 -- Blanks first, then the byte that begins a token: a digit, an operator of two bytes, one of one byte, or any other.
 use native.Mathlib.Omega.{arith}
 use mathlib.Core.Path.{refl, sym, _∙_}
-use Rattle.standard.proofs.Lexed.{at-end, at-digit, at-two, at-one, at-mark, digit-low}
+use Rattle.tokens.proofs.Lexed.{at-end, at-digit, at-two, at-one, at-mark, digit-low}
 use borrow.Author.Needs.{needs}
-use Rattle.standard.proofs.token_at.Statement.{statement}
-use Rattle.standard.proofs.token_at.Tie as tie
+use Rattle.tokens.proofs.token_at.Statement.{statement}
+use Rattle.tokens.proofs.token_at.Tie as tie
 
 skip-requires : tie.Need-skip-requires
 skip-requires c κs = search needs
 
 returns : tie.Need-returns
-returns c = at-end (c .before .skip .ensures) (c .if1 .taken)
+returns c = at-end _ _ (c .before .skip .ensures) (c .if1 .taken)
 
 shared-slice-read-b : tie.Need-shared-slice-read-b
 shared-slice-read-b c = search needs
@@ -31,7 +31,7 @@ run-requires : tie.Need-run-requires
 run-requires c κs = search needs
 
 returns-2 : tie.Need-returns-2
-returns-2 c = at-digit (c .before .before .before .before .before .before .skip .ensures) _ (omega arith) (sym (c .before .before .before .is-digit .ensures) ∙ c .before .before .if2 .taken) (c .before .wide .ensures) (c .run .ensures)
+returns-2 c = at-digit _ _ (c .before .before .before .before .before .before .skip .ensures) (omega arith) (sym (c .before .before .before .is-digit .ensures) ∙ c .before .before .if2 .taken) (c .before .wide .ensures) (c .run .ensures)
 
 add-peek : tie.Need-add-peek
 add-peek c = search needs
@@ -46,7 +46,7 @@ add-t15 : tie.Need-add-t15
 add-t15 c = search needs
 
 returns-3 : tie.Need-returns-3
-returns-3 c = at-two (c .before .before .before .before .before .before .before .skip .ensures) (omega arith) refl (c .before .before .peek .ensures) (sym (c .before .before .before .before .is-digit .ensures) ∙ c .before .before .before .if2 .left) (c .before .pair .ensures) (c .if3 .taken)
+returns-3 c = at-two _ _ (c .before .before .before .before .before .before .before .skip .ensures) (omega arith) refl (c .before .before .peek .ensures) (sym (c .before .before .before .before .is-digit .ensures) ∙ c .before .before .before .if2 .left) (c .before .pair .ensures) (c .if3 .taken)
 
 single-requires : tie.Need-single-requires
 single-requires c κs = search needs
@@ -55,13 +55,13 @@ add-t16 : tie.Need-add-t16
 add-t16 c = search needs
 
 returns-4 : tie.Need-returns-4
-returns-4 c = at-one (c .before .before .before .before .before .before .before .before .before .skip .ensures) (omega arith) refl (c .before .before .before .before .peek .ensures) (sym (c .before .before .before .before .before .before .is-digit .ensures) ∙ c .before .before .before .before .before .if2 .left) (c .before .before .before .pair .ensures) (c .before .before .if3 .left) (c .before .single .ensures) (c .if4 .taken)
+returns-4 c = at-one _ _ (c .before .before .before .before .before .before .before .before .before .skip .ensures) (omega arith) refl (c .before .before .before .before .peek .ensures) (sym (c .before .before .before .before .before .before .is-digit .ensures) ∙ c .before .before .before .before .before .if2 .left) (c .before .before .before .pair .ensures) (c .before .before .if3 .left) (c .before .single .ensures) (c .if4 .taken)
 
 add-t7 : tie.Need-add-t7
 add-t7 c = search needs
 
 returns-5 : tie.Need-returns-5
-returns-5 c = at-mark (c .before .before .before .before .before .before .before .before .before .skip .ensures) (omega arith) refl (c .before .before .before .before .peek .ensures) (sym (c .before .before .before .before .before .before .is-digit .ensures) ∙ c .before .before .before .before .before .if2 .left) (c .before .before .before .pair .ensures) (c .before .before .if3 .left) (c .before .single .ensures) (c .if4 .left)
+returns-5 c = at-mark _ _ (c .before .before .before .before .before .before .before .before .before .skip .ensures) (omega arith) refl (c .before .before .before .before .peek .ensures) (sym (c .before .before .before .before .before .before .is-digit .ensures) ∙ c .before .before .before .before .before .if2 .left) (c .before .before .before .pair .ensures) (c .before .before .if3 .left) (c .before .single .ensures) (c .if4 .left)
 
 pub token-at-spec : {M : Type 1} → statement M
 token-at-spec =

@@ -1,16 +1,16 @@
 -- Each blank is passed; the measure is the bytes left.
-use Rattle.standard.proofs.Lexed.{skip-end, skip-space, skip-tab, skip-stop}
+use Rattle.tokens.proofs.Lexed.{skip-end, skip-blank, skip-stop}
 use lib.ListN.{length}
 use borrow.Author.Needs.{needs}
 use native.Mathlib.Omega.{arith}
 use Prim.Native.Nat.{ℕ, _<_, _-_}
 use borrow.Fn.Kinds.{In}
 use borrow.Fn.PlainCycle.{Measures, is, falls, and}
-use Rattle.standard.proofs.skip.Reads as skip
-use Rattle.standard.proofs.skip.Kinds as skip-kinds
-use Rattle.standard.proofs.+skip.Lts-skip as skip-lts
-use Rattle.standard.proofs.+skip.{statement}
-use Rattle.standard.proofs.+skip.Tie.{close}
+use Rattle.tokens.proofs.skip.Reads as skip
+use Rattle.tokens.proofs.skip.Kinds as skip-kinds
+use Rattle.tokens.proofs.+skip.Lts-skip as skip-lts
+use Rattle.tokens.proofs.+skip.{statement}
+use Rattle.tokens.proofs.+skip.Tie.{close}
 
 abbrev μ-skip : Measures 1 skip-kinds.ps ℕ
 μ-skip κs a = length (a .0 .now) - a .1 .0
@@ -25,7 +25,7 @@ abbrev R-skip : ℕ → skip-lts.Claims
 R-skip t = (skip-below t, skip.Post)
 
 skip-returns : (t : ℕ) → skip-lts.Need-returns (R-skip t) (skip-at t) skip.Post
-skip-returns t c = skip-end (c .before .before .pre .1) (c .if1 .taken)
+skip-returns t c = skip-end _ _ (c .if1 .taken)
 
 skip-shared-slice-read-b :
     (t : ℕ) → skip-lts.Need-shared-slice-read-b (R-skip t) (skip-at t) skip.Post
@@ -39,7 +39,7 @@ skip-skip-requires :
 skip-skip-requires t c κs = search needs
 
 skip-returns-2 : (t : ℕ) → skip-lts.Need-returns-2 (R-skip t) (skip-at t) skip.Post
-skip-returns-2 t c = skip-space (omega arith) (c .before .if2 .taken) (c .skip .ensures)
+skip-returns-2 t c = skip-blank _ _ (omega arith) (rw (c .before .if2 .taken)) (c .skip .ensures)
 
 skip-add-skip-2 :
     (t : ℕ) → skip-lts.Need-add-skip-2 (R-skip t) (skip-at t) skip.Post
@@ -50,10 +50,10 @@ skip-skip-requires-2 :
 skip-skip-requires-2 t c κs = search needs
 
 skip-returns-3 : (t : ℕ) → skip-lts.Need-returns-3 (R-skip t) (skip-at t) skip.Post
-skip-returns-3 t c = skip-tab (omega arith) (c .before .if3 .taken) (c .skip2 .ensures)
+skip-returns-3 t c = skip-blank _ _ (omega arith) (rw (c .before .if3 .taken)) (c .skip2 .ensures)
 
 skip-returns-4 : (t : ℕ) → skip-lts.Need-returns-4 (R-skip t) (skip-at t) skip.Post
-skip-returns-4 t c = skip-stop (omega arith) (c .before .if2 .left) (c .if3 .left)
+skip-returns-4 t c = skip-stop _ _ (omega arith) (c .before .if2 .left) (c .if3 .left)
 
 pub +skip-spec : {M : Type 1} → statement M
 +skip-spec =

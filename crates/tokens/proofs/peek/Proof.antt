@@ -2,8 +2,8 @@
 use mathlib.Core.Path.{refl, sym}
 use lib.ListN.{List·getD-eq-default}
 use borrow.Author.Needs.{needs}
-use Rattle.standard.proofs.peek.Statement.{statement}
-use Rattle.standard.proofs.peek.Tie as tie
+use Rattle.tokens.proofs.peek.Statement.{statement}
+use Rattle.tokens.proofs.peek.Tie as tie
 
 shared-slice-read-result : tie.Need-shared-slice-read-result
 shared-slice-read-result c = search needs
