@@ -8,6 +8,10 @@ use std::path::Path;
 use std::time::Instant;
 
 mod count;
+// the static library's own functions, as the host crate declares them
+#[allow(dead_code)]
+#[path = "../../host/rust/src/ffi.rs"]
+mod ffi;
 mod files;
 mod glibc;
 mod plot;
@@ -186,6 +190,12 @@ fn evaluation(rows: &mut Vec<Row>) {
         let s = nanoseconds(100_000, |k| keep(standard.ngettext(black_box(id), "many", k as u64)));
         let b = nanoseconds(100_000, |k| keep(other.ngettext(black_box(id), "many", k as u64)));
         rows.push(faster("plural rule", format!("{name}, Shipped"), "ns", a, b, "crate"));
+        // a record can be altered, so each lookup tests that its nodes are a tree; where the last one has no known code, that is all
+        let mut broken = ffi::load(&file, None, false, false).catalog;
+        broken.codes[broken.nodes - 1] = 255;
+        let test = nanoseconds(100_000, |k| keep(ffi::evaluate(black_box(&broken), k as u64)));
+        let case = format!("{name}, Shipped, less the test that the record holds a tree ({test:.0} ns), which the crate has not");
+        rows.push(faster("plural rule", case, "ns", a - test, b, "crate"));
         rows.push(faster("plural rule", format!("{name}, Standard, the crate reading it its own way"), "ns", s, b, "crate"));
     }
 }
