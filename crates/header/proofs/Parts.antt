@@ -12,7 +12,7 @@ use Rattle.text.specs.Cut.{every}
 use Rattle.text.specs.declared.Found.{Found}
 use Rattle.text.specs.declared.Found.the-variants as found
 use Rattle.text.proofs.Tests.{taken, left}
-use Rattle.text.proofs.Sought.{first-inside}
+use Rattle.compare.proofs.Sought.{first-inside}
 use Rattle.header.specs.Header.{shift, within, named, lines, lineOk, field, upTo, labelAfter, charset, plural, metadata}
 use Rattle.header.specs.Promise.{endOf, partOf}
 use Rattle.header.specs.declared.Place.{Place}

@@ -13,8 +13,8 @@ use Rattle.text.specs.Cut.{cut}
 use Rattle.text.specs.declared.Found.the-variants as found
 use Rattle.text.proofs.Tests.{taken, left, by-test, and-none, and-left}
 use Rattle.text.proofs.Walk.{part-from}
-use Rattle.text.proofs.Trimming.{trim-bound}
 use Rattle.text.proofs.Cuts.{rest-last, rest-more, spanned, spans, cut-spans}
+use Rattle.trim.proofs.Trimming.{trim-bound}
 use Rattle.header.specs.Header.{shift, orElse, has, isNamed, valueAt, named, lastOf}
 use Rattle.header.specs.Promise.{startOf, endOf}
 use Rattle.header.specs.declared.Place.{Place}

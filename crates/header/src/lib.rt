@@ -51,9 +51,9 @@ fn named_value(s: &[u8], x: u8, name: &[u8]) -> Place
     if s.len() <= i {
         return Place::Absent;
     }
-    if text::equal(text::trim(&s[..i], Set::Six), name) {
+    if compare::equal(trim::trim(&s[..i], Set::Six), name) {
         let after = i + 1;
-        let value = text::trimmed(&s[after..], Set::Six);
+        let value = trim::trimmed(&s[after..], Set::Six);
         return Place::At(after + value.start, value.len);
     }
     Place::Absent
@@ -105,12 +105,12 @@ fn lines_ok(h: &[u8]) -> bool
 fn charset_in(v: &[u8]) -> Place
     ensures { λ r. ⌜ r ≡ charset (now (v .entry)) ⌝ }
 {
-    let first = text::find(v, b"charset=");
+    let first = compare::find(v, b"charset=");
     let Found::At(i) = first else {
         return Place::Absent;
     };
     let start = i + 8;
-    let second = text::find(&v[start..], b"charset=");
+    let second = compare::find(&v[start..], b"charset=");
     match second {
         Found::At(j) => Place::At(start, j),
         Found::Nowhere => Place::At(start, v.len() - start),
@@ -172,12 +172,12 @@ pub fn parse_metadata(h: &[u8]) -> Metadata
 pub fn is_utf8_label(label: &[u8]) -> bool
     ensures { λ r. ⌜ r ≡ utf8Label (now (label .entry)) ⌝ }
 {
-    let name = text::trim(label, Set::Label);
-    if text::equal_small(name, b"utf-8") {
+    let name = trim::trim(label, Set::Label);
+    if compare::equal_small(name, b"utf-8") {
         return true;
     }
-    if text::equal_small(name, b"utf8") {
+    if compare::equal_small(name, b"utf8") {
         return true;
     }
-    text::equal_small(name, b"unicode-1-1-utf-8")
+    compare::equal_small(name, b"unicode-1-1-utf-8")
 }
