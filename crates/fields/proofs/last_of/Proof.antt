@@ -4,12 +4,12 @@ use mathlib.Core.Path.{_∙_}
 use lib.ListN.{length}
 use Rattle.text.specs.Trim.{six}
 use Rattle.text.proofs.Cuts.{rest-bound}
-use Rattle.header.specs.Header.{named}
-use Rattle.header.proofs.Places.{named-end, Met, met-none, met-last, met-more, piece-fits, found-so}
+use Rattle.fields.specs.Fields.{named}
+use Rattle.fields.proofs.Places.{named-end, Met, met-none, met-last, met-more, piece-fits, found-so}
 use borrow.Author.Needs.{needs}
 use native.Mathlib.Omega.{arith}
-use Rattle.header.proofs.last_of.Statement.{statement}
-use Rattle.header.proofs.last_of.Tie as tie
+use Rattle.fields.proofs.last_of.Statement.{statement}
+use Rattle.fields.proofs.last_of.Tie as tie
 
 abbrev Inv-loop : tie.InvT-loop
 Inv-loop s c x name found₀ at₀ found at = (at ≤ length s) × Met (named six six x name) c s at found

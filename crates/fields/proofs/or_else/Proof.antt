@@ -1,10 +1,10 @@
 -- By cases of the first place. Assumes nothing.
 use mathlib.Core.Path.{sym, ap}
-use Rattle.header.specs.Header.{orElse}
-use Rattle.header.specs.declared.Place.{Place}
+use Rattle.fields.specs.Fields.{orElse}
+use Rattle.fields.specs.declared.Place.{Place}
 use borrow.Author.Needs.{needs}
-use Rattle.header.proofs.or_else.Statement.{statement}
-use Rattle.header.proofs.or_else.Tie as tie
+use Rattle.fields.proofs.or_else.Statement.{statement}
+use Rattle.fields.proofs.or_else.Tie as tie
 
 enum-known-p : tie.Need-enum-known-p
 enum-known-p c = search needs

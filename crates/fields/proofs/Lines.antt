@@ -11,7 +11,7 @@ use Rattle.text.specs.Bytes.{place}
 use Rattle.text.specs.Cut.{cut, every}
 use Rattle.text.proofs.Tests.{by-test}
 use Rattle.text.proofs.Cuts.{rest-last, rest-more}
-use Rattle.header.specs.Header.{lineOk}
+use Rattle.fields.specs.Fields.{lineOk}
 
 pub line-empty : (s : List ℕ) → length s ≡ 0 → true ≡ lineOk s
 line-empty [] h = refl

@@ -4,12 +4,12 @@ use mathlib.Core.Path.{refl, sym, _∙_}
 use lib.ListN.{length}
 use borrow.Author.Tests.{not-true, not-false}
 use Rattle.text.proofs.Cuts.{rest-bound}
-use Rattle.header.specs.Header.{lineOk}
-use Rattle.header.proofs.Lines.{Passed, passed-last, passed-more, passed-not}
+use Rattle.fields.specs.Fields.{lineOk}
+use Rattle.fields.proofs.Lines.{Passed, passed-last, passed-more, passed-not}
 use borrow.Author.Needs.{needs}
 use native.Mathlib.Omega.{arith}
-use Rattle.header.proofs.lines_ok.Statement.{statement}
-use Rattle.header.proofs.lines_ok.Tie as tie
+use Rattle.fields.proofs.lines_ok.Statement.{statement}
+use Rattle.fields.proofs.lines_ok.Tie as tie
 
 abbrev Inv-loop : tie.InvT-loop
 Inv-loop h at₀ at = (at ≤ length h) × Passed lineOk 10 h at

@@ -1,10 +1,10 @@
 -- By cases of the place. Assumes nothing.
 use mathlib.Core.Path.{sym, ap}
-use Rattle.header.specs.Header.{shift}
+use Rattle.fields.specs.Fields.{shift}
 use borrow.Author.Needs.{needs}
 use native.Mathlib.Omega.{arith}
-use Rattle.header.proofs.moved.Statement.{statement}
-use Rattle.header.proofs.moved.Tie as tie
+use Rattle.fields.proofs.moved.Statement.{statement}
+use Rattle.fields.proofs.moved.Tie as tie
 
 enum-known-p : tie.Need-enum-known-p
 enum-known-p c = search needs

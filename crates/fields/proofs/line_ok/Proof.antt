@@ -1,7 +1,7 @@
 use borrow.Author.Needs.{needs}
-use Rattle.header.proofs.Lines.{line-empty, line-full}
-use Rattle.header.proofs.line_ok.Statement.{statement}
-use Rattle.header.proofs.line_ok.Tie as tie
+use Rattle.fields.proofs.Lines.{line-empty, line-full}
+use Rattle.fields.proofs.line_ok.Statement.{statement}
+use Rattle.fields.proofs.line_ok.Tie as tie
 
 returns : tie.Need-returns
 returns c = line-empty (c .before .before .args .line .now) (c .if1 .taken)

@@ -15,10 +15,10 @@ use Rattle.text.proofs.Tests.{taken, left, by-test, and-none, and-left}
 use Rattle.text.proofs.Walk.{part-from}
 use Rattle.text.proofs.Cuts.{rest-last, rest-more, spanned, spans, cut-spans}
 use Rattle.trim.proofs.Trimming.{trim-bound}
-use Rattle.header.specs.Header.{shift, orElse, has, isNamed, valueAt, named, lastOf}
-use Rattle.header.specs.Promise.{startOf, endOf}
-use Rattle.header.specs.declared.Place.{Place}
-use Rattle.header.specs.declared.Place.the-variants.{At, Absent}
+use Rattle.fields.specs.Fields.{shift, orElse, has, isNamed, valueAt, named, lastOf}
+use Rattle.fields.specs.Promise.{startOf, endOf}
+use Rattle.fields.specs.declared.Place.{Place}
+use Rattle.fields.specs.declared.Place.the-variants.{At, Absent}
 
 -- a place ends where it does, moved k on
 pub shift-end : (k n m : ℕ) (p : Place) → endOf p ≤ n → k + n ≤ m → endOf (shift k p) ≤ m

@@ -2,11 +2,11 @@
 use mathlib.Core.Path.{sym}
 use lib.Seq.{length-take-le}
 use Rattle.text.specs.Trim.{six}
-use Rattle.header.proofs.Places.{not-field, other-name, name-told, value-told, value-fits}
+use Rattle.fields.proofs.Places.{not-field, other-name, name-told, value-told, value-fits}
 use borrow.Author.Needs.{needs}
 use native.Mathlib.Omega.{arith}
-use Rattle.header.proofs.named_value.Statement.{statement}
-use Rattle.header.proofs.named_value.Tie as tie
+use Rattle.fields.proofs.named_value.Statement.{statement}
+use Rattle.fields.proofs.named_value.Tie as tie
 
 find-byte-requires : tie.Need-find-byte-requires
 find-byte-requires c κs = search needs
