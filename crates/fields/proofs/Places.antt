@@ -10,7 +10,6 @@ use borrow.Author.Tests.{lt-ltb, le-ltb, ltb-true}
 use Rattle.text.specs.Trim.{trim, front}
 use Rattle.text.specs.Bytes.{same, place}
 use Rattle.text.specs.Cut.{cut}
-use Rattle.text.specs.declared.Found.the-variants as found
 use Rattle.text.proofs.Tests.{taken, left, by-test, and-none, and-left}
 use Rattle.text.proofs.Walk.{part-from}
 use Rattle.text.proofs.Cuts.{rest-last, rest-more, spanned, spans, cut-spans}

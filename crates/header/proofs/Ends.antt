@@ -9,7 +9,7 @@ use Rattle.text.specs.Trim.{six}
 use Rattle.text.specs.Bytes.{bytes}
 use Rattle.text.specs.Cut.{every}
 use Rattle.text.proofs.Tests.{taken, left, by-test}
-use Rattle.fields.specs.Fields.{shift, lines, lineOk}
+use Rattle.fields.specs.Fields.{lines, lineOk}
 use Rattle.fields.specs.Promise.{endOf}
 use Rattle.fields.specs.declared.Place.{Place}
 use Rattle.fields.specs.declared.Place.the-variants.{At, Absent}
