@@ -8,7 +8,8 @@ use Rattle.utf8.specs.Utf8.{utf8, rest}
 use Rattle.text.specs.Trim.{front, trim, trimStart, trimEnd}
 use Rattle.text.specs.Bytes.{same, begins, first}
 use Rattle.text.specs.Cut.{cut, every}
-use Rattle.header.specs.Header.{named, lastOf, charset, plural, metadata, utf8Label}
+use Rattle.fields.specs.Fields.{named, lastOf}
+use Rattle.header.specs.Header.{charset, plural, metadata, utf8Label}
 use Rattle.plurals.specs.declared.Reading.the-variants.{Standard}
 use Rattle.layout.specs.Mo.{word, string, contextEnd, idStart, idEnd, context, id, entry, pieceAt, segment}
 use Rattle.layout.specs.declared.Stretch.the-variants as stretch

@@ -14,10 +14,10 @@ use Rattle.text.specs.Cut.{cut}
 use Rattle.text.proofs.Tests.{taken, left, by-test}
 use Rattle.text.proofs.Cuts.{cut-first, cut-whole, place-length}
 use Rattle.rules.specs.Tree.{Tree}
+use Rattle.fields.specs.Promise.{endOf}
+use Rattle.fields.specs.declared.Place.{Place}
+use Rattle.fields.specs.declared.Place.the-variants.{At, Absent}
 use Rattle.header.specs.Header.{metadata, utf8Label}
-use Rattle.header.specs.Promise.{endOf}
-use Rattle.header.specs.declared.Place.{Place}
-use Rattle.header.specs.declared.Place.the-variants.{At, Absent}
 use Rattle.header.specs.declared.Metadata.{Metadata}
 use Rattle.header.specs.declared.Metadata.the-variants.{Malformed, Fields}
 use Rattle.header.proofs.Ends.{Inside, fields-end}

@@ -6,9 +6,9 @@ use mathlib.Core.List.{List, [], _∷_}
 use lib.ListN.{length, take, drop}
 use Rattle.text.specs.Trim.{six}
 use Rattle.rules.specs.Tree.{Tree}
+use Rattle.fields.specs.declared.Place.{Place}
+use Rattle.fields.specs.declared.Place.the-variants as place
 use Rattle.header.specs.Header.{metadata, utf8Label}
-use Rattle.header.specs.declared.Place.{Place}
-use Rattle.header.specs.declared.Place.the-variants as place
 use Rattle.header.specs.declared.Metadata.{Metadata}
 use Rattle.header.specs.declared.Metadata.the-variants as metadata
 use Rattle.plurals.specs.Plurals.{parsed, outcomeOf, treeIn, defaultTree}

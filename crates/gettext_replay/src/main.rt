@@ -163,7 +163,7 @@ fn agrees<'a>(told: &'a [u8], answer: Answer, got: &'a [u8], text: &'a [u8]) -> 
     if whose(answer) != byte(told, 4) {
         return false;
     }
-    text::equal(got, text)
+    compare::equal(got, text)
 }
 
 // One call of the four.

@@ -11,10 +11,12 @@ use Rattle.text.proofs.Parts.{part-of-part}
 use Rattle.text.specs.Trim.{six}
 use Rattle.text.specs.Bytes.{bytes}
 use Rattle.text.specs.Cut.{every}
-use Rattle.header.specs.Header.{shift, within, field, lines, lineOk, charset, plural, metadata}
-use Rattle.header.specs.Promise.{endOf, partOf}
-use Rattle.header.specs.declared.Place.{Place}
-use Rattle.header.specs.declared.Place.the-variants.{At, Absent}
+use Rattle.fields.specs.Fields.{shift, lines, lineOk}
+use Rattle.fields.specs.Promise.{endOf}
+use Rattle.fields.specs.declared.Place.{Place}
+use Rattle.fields.specs.declared.Place.the-variants.{At, Absent}
+use Rattle.header.specs.Header.{within, field, charset, plural, metadata}
+use Rattle.header.specs.Promise.{partOf}
 use Rattle.header.specs.declared.Sought.{Sought}
 use Rattle.header.specs.declared.Sought.the-variants.{Charset, Plural}
 use Rattle.header.specs.declared.Metadata.{Metadata}

@@ -9,14 +9,16 @@ use Rattle.text.specs.Trim.{six}
 use Rattle.text.specs.Bytes.{bytes}
 use Rattle.text.specs.Cut.{every}
 use Rattle.text.proofs.Tests.{taken, left, by-test}
-use Rattle.header.specs.Header.{shift, within, field, lines, lineOk, metadata}
-use Rattle.header.specs.Promise.{endOf, partOf}
-use Rattle.header.specs.declared.Place.{Place}
-use Rattle.header.specs.declared.Place.the-variants.{At, Absent}
+use Rattle.fields.specs.Fields.{lines, lineOk}
+use Rattle.fields.specs.Promise.{endOf}
+use Rattle.fields.specs.declared.Place.{Place}
+use Rattle.fields.specs.declared.Place.the-variants.{At, Absent}
+use Rattle.fields.proofs.Places.{shift-end}
+use Rattle.header.specs.Header.{within, field, metadata}
+use Rattle.header.specs.Promise.{partOf}
 use Rattle.header.specs.declared.Sought.{Sought}
 use Rattle.header.specs.declared.Sought.the-variants.{Charset, Plural}
 use Rattle.header.specs.declared.Metadata.the-variants.{Malformed, Fields}
-use Rattle.header.proofs.Places.{shift-end}
 use Rattle.header.proofs.Parts.{part-end, field-end}
 
 within-end : (k : Sought) (h : List ℕ) (p : Place) → endOf p ≤ length h → endOf (within h p (partOf k)) ≤ length h

@@ -9,8 +9,8 @@ use Rattle.text.specs.Bytes.{bytes, first, same, small}
 use Rattle.text.specs.declared.Found.{Found}
 use Rattle.text.specs.declared.Found.the-variants as found
 use Rattle.text.proofs.Walk.{part-from}
+use Rattle.fields.specs.declared.Place.the-variants.{At, Absent}
 use Rattle.header.specs.Header.{upTo, charset, labelIs, utf8Label}
-use Rattle.header.specs.declared.Place.the-variants.{At, Absent}
 
 abbrev pub pattern : List ℕ
 pattern = bytes "charset="

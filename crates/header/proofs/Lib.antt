@@ -1,5 +1,3 @@
-pub mod Places
-pub mod Lines
 pub mod Labels
 pub mod Parts
 pub mod Ends

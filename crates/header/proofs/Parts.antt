@@ -12,16 +12,18 @@ use Rattle.text.specs.Cut.{every}
 use Rattle.text.specs.declared.Found.{Found}
 use Rattle.text.specs.declared.Found.the-variants as found
 use Rattle.text.proofs.Tests.{taken, left}
-use Rattle.text.proofs.Sought.{first-inside}
-use Rattle.header.specs.Header.{shift, within, named, lines, lineOk, field, upTo, labelAfter, charset, plural, metadata}
-use Rattle.header.specs.Promise.{endOf, partOf}
-use Rattle.header.specs.declared.Place.{Place}
-use Rattle.header.specs.declared.Place.the-variants.{At}
+use Rattle.compare.proofs.Sought.{first-inside}
+use Rattle.fields.specs.Fields.{shift, named, lines, lineOk}
+use Rattle.fields.specs.Promise.{endOf}
+use Rattle.fields.specs.declared.Place.{Place}
+use Rattle.fields.specs.declared.Place.the-variants.{At}
+use Rattle.fields.proofs.Places.{named-end, cut-end}
+use Rattle.header.specs.Header.{within, field, upTo, labelAfter, charset, plural, metadata}
+use Rattle.header.specs.Promise.{partOf}
 use Rattle.header.specs.declared.Sought.{Sought}
 use Rattle.header.specs.declared.Sought.the-variants.{Charset, Plural}
 use Rattle.header.specs.declared.Metadata.the-variants.{Malformed, Fields}
 use Rattle.header.proofs.Labels.{pattern}
-use Rattle.header.proofs.Places.{named-end, cut-end}
 
 upTo-length : (v : List ℕ) (f : Found) → first pattern v ≡ f → upTo f (length v) ≤ length v
 upTo-length v (found.At j) e = omega (arith, first-inside pattern v j e)

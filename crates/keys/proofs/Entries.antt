@@ -11,7 +11,7 @@ use borrow.Author.Tests.{ltb-true, eqb-false}
 use Rattle.text.specs.Bytes.{place}
 use Rattle.text.proofs.Tests.{never, taken, left, by-test}
 use Rattle.text.proofs.Placed.{place-stands}
-use Rattle.text.proofs.Same.{same-true}
+use Rattle.compare.proofs.Same.{same-true}
 use Rattle.layout.specs.Mo.{string, original, idStart, idEnd, ended, keyed, translated, entry}
 use Rattle.layout.specs.declared.Entry.{Entry}
 use Rattle.layout.specs.declared.Entry.the-variants as entries

@@ -11,7 +11,7 @@ use borrow.Author.Tests.{ne-eqb}
 use Rattle.text.specs.Bytes.{same}
 use Rattle.text.proofs.Tests.{and-none, and-assoc}
 use Rattle.text.proofs.Walk.{part-from}
-use Rattle.text.proofs.Same.{other-length}
+use Rattle.compare.proofs.Same.{other-length}
 use Rattle.keys.specs.Keys.{keyOf}
 use Rattle.keys.specs.Promise.{Sized}
 use Rattle.keys.specs.declared.Size.{Size}

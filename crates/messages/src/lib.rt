@@ -57,10 +57,10 @@ pub enum Read {
 fn get_read_u32(file: &[u8]) -> Order
     ensures { λ r. ⌜ r ≡ orderOf (now (file .entry)) ⌝ }
 {
-    if text::starts_with(file, b"\xde\x12\x04\x95") {
+    if compare::starts_with(file, b"\xde\x12\x04\x95") {
         return Order::Big(false);
     }
-    if text::starts_with(file, b"\x95\x04\x12\xde") {
+    if compare::starts_with(file, b"\x95\x04\x12\xde") {
         return Order::Big(true);
     }
     Order::Unknown

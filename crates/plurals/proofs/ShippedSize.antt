@@ -9,7 +9,7 @@ use borrow.Author.Tests.{ltb-true, eqb-true}
 use lib.ListN.{length, getD, take, drop, length-take, length-drop}
 use lib.Dec.{ltb, eqb}
 use Rattle.text.specs.Trim.{trim, trimStart, trimEnd, six}
-use Rattle.text.proofs.Trimming.{trim-bound}
+use Rattle.trim.proofs.Trimming.{trim-bound}
 use Rattle.rules.specs.Tree.{Tree, var, int, nay, bin, cond, Op, Reading, tree, none}
 use Rattle.rules.specs.Store.{size}
 use Rattle.scan.specs.Scan.{indexOf, endFrom, integer}

@@ -102,7 +102,7 @@ fn rule_of(s: &[u8], reading: Reading) -> Plural
 pub fn parse(text: &[u8], reading: Reading) -> Plural
     ensures { λ r. ⌜ Parses (parsed reading (now (text .entry))) r ⌝ }
 {
-    let s = text::trim(text, text::Set::Six);
+    let s = trim::trim(text, text::Set::Six);
     let long = rules::MOST < s.len();
     let foreign = !ascii(s);
     if long {

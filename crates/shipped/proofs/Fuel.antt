@@ -10,7 +10,7 @@ use lib.Dec.{ltb, eqb}
 use borrow.Author.Tests.{ltb-true, eqb-true}
 use Rattle.rules.specs.Tree.{Reading}
 use Rattle.text.specs.Trim.{trim, six}
-use Rattle.text.proofs.Trimming.{trim-bound}
+use Rattle.trim.proofs.Trimming.{trim-bound}
 use Rattle.scan.specs.Scan.{indexOf, endFrom}
 use Rattle.scan.specs.Levels.{Kind, binary, ternary, Row, rows, found}
 use Rattle.shipped.specs.Shipped.{two, one, readNot, choose, cut, level, inside, parens, parseIn, shipped, bang, colon}

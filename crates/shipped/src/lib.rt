@@ -50,7 +50,7 @@ fn parse_int(
 {
     let number = scan::integer_of(s);
     let scan::Number::Whole(v) = number else {
-        return parse_n(text::trim(s, text::Set::Six), codes, places, values, k);
+        return parse_n(trim::trim(s, text::Set::Six), codes, places, values, k);
     };
     rules::put(codes, places, values, k, 1, 0, 0, 0, v);
     rules::Nodes::Read(k + 1)
@@ -112,10 +112,10 @@ fn parse_not(
 {
     let i = scan::index_of(s, b"!");
     if i != 0 {
-        return parse_int(text::trim(s, text::Set::Six), codes, places, values, k);
+        return parse_int(trim::trim(s, text::Set::Six), codes, places, values, k);
     }
     if s.len() == 0 {
-        return parse_int(text::trim(s, text::Set::Six), codes, places, values, k);
+        return parse_int(trim::trim(s, text::Set::Six), codes, places, values, k);
     }
     let under = parse(&s[1..], codes, places, values, k);
     let rules::Nodes::Read(m) = under else {
@@ -208,7 +208,7 @@ fn parse_level(
     if row < 10 {
         return parse_row(s, row, codes, places, values, k);
     }
-    parse_not(text::trim(s, text::Set::Six), codes, places, values, k)
+    parse_not(trim::trim(s, text::Set::Six), codes, places, values, k)
 }
 
 // The inside of a bracket around the text, which loses its last byte, whatever it is; any other text goes to the levels.
@@ -227,16 +227,16 @@ fn parse_parens(
 {
     let n = s.len();
     if scan::first_of(s) != b'(' {
-        return parse_level(text::trim(s, text::Set::Six), codes, places, values, k);
+        return parse_level(trim::trim(s, text::Set::Six), codes, places, values, k);
     }
     if n == 1 {
         return rules::Nodes::NoReading;
     }
     let inside = &s[1..n - 1];
     if scan::end_of(inside) != n {
-        return parse_level(text::trim(s, text::Set::Six), codes, places, values, k);
+        return parse_level(trim::trim(s, text::Set::Six), codes, places, values, k);
     }
-    parse(text::trim(inside, text::Set::Six), codes, places, values, k)
+    parse(trim::trim(inside, text::Set::Six), codes, places, values, k)
 }
 
 // `Ast::parse`, at place k.
@@ -252,7 +252,7 @@ fn parse(
         (pool (now (codes .entry)) (now (places .entry)) (now (values .entry)))
         (pool (now (codes .exit)) (now (places .exit)) (now (values .exit))) r ⌝ }
 {
-    parse_parens(text::trim(s, text::Set::Six), codes, places, values, k)
+    parse_parens(trim::trim(s, text::Set::Six), codes, places, values, k)
 }
 
 // The Shipped reading: the nodes of the rule's tree from place 0 on, or no reading.

@@ -26,7 +26,7 @@ use Rattle.shipped.specs.Shipped.{shipped, parseIn, parens, level, choose, read
 use Rattle.plurals.specs.declared.Reading.the-variants.{Shipped}
 use Rattle.plurals.specs.declared.Plural.{Plural}
 use Rattle.plurals.specs.Plurals.{made, tested, parsed, defaultTree, Parses}
-use Rattle.header.specs.Header.{named, plural}
+use Rattle.header.specs.Header.{plural}
 use Rattle.layout.specs.Mo.{word, string, contextEnd, idStart, idEnd, context, id, entry, pieceAt, segment}
 use Rattle.messages.specs.Messages.{orderOf, headOf, originalOf, readAt}
 use Rattle.container.specs.Catalog.{header, entryStep, entriesFrom, load}

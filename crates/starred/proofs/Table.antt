@@ -28,7 +28,8 @@ use Rattle.plurals.specs.declared.Reading.{Reading}
 use Rattle.plurals.specs.declared.Reading.the-variants.{Shipped, Standard}
 use Rattle.plurals.specs.Plurals as plurals
 use Rattle.plurals.specs.Plurals.{Parse, made, tested, parsed, outcomeOf}
-use Rattle.header.specs.Header.{named, lastOf, charset, plural, metadata, utf8Label}
+use Rattle.fields.specs.Fields.{named, lastOf}
+use Rattle.header.specs.Header.{charset, plural, metadata, utf8Label}
 use Rattle.layout.specs.Mo.{word, string, contextEnd, idStart, idEnd, context, id, entry, pieceAt, segment}
 use Rattle.messages.specs.Messages.{numberOf, orderOf, headOf, originalOf, readAt}
 use Rattle.container.specs.Catalog.{header, entryStep, entriesFrom, Answer, accepted, refused, load}

@@ -11,8 +11,7 @@ use lib.Dec.{eqb}
 use Rattle.text.specs.Bytes.{place}
 use Rattle.text.specs.Cut.{cut, onto}
 use Rattle.text.proofs.Tests.{taken, left, by-test}
-use Rattle.text.proofs.Front.{front-in, front-out}
-use Rattle.text.proofs.Trimming.{front-length}
+use Rattle.text.proofs.Front.{front-in, front-out, front-length}
 
 -- a cut has a first piece
 pub record Pieces (ps : List (List ℕ)) : Type 0 where

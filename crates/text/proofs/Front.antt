@@ -20,6 +20,11 @@ module _ (w : ℕ → Bool) (b : ℕ) (s : List ℕ) where
   unfolding front
   front-out e = left _ _ e
 
+pub front-length : (w : ℕ → Bool) (s : List ℕ) → front w s ≤ length s
+unfolding front
+front-length w [] = omega arith
+front-length w (b ∷ s) = by-test (front w (b ∷ s) ≤ length (b ∷ s)) (w b) (λ e. omega (arith, front-in w b s e, front-length w s)) (λ e. omega (arith, front-out w b s e))
+
 module _ (w : ℕ → Bool) (s : List ℕ) (at i : ℕ) where
   none-left : length s ≤ i → front w (drop i s) ≡ 0
   unfolding front

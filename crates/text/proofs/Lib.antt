@@ -1,13 +1,8 @@
 pub mod Tests
 pub mod Walk
-pub mod Sets
 pub mod Front
 pub mod Bounds
-pub mod Trimming
-pub mod Same
-pub mod Sought
 pub mod Cuts
 pub mod Placed
 pub mod Parts
-pub mod Middle
 pub mod Unique

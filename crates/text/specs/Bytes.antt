@@ -6,8 +6,6 @@ use mathlib.Core.Bool.{Bool, true, false, not, _&&_}
 use mathlib.Core.List.{List, [], _∷_}
 use lib.Dec.{leb, eqb}
 use Rattle.text.specs.Trim.{front}
-use Rattle.text.specs.declared.Case.{Case}
-use Rattle.text.specs.declared.Case.the-variants.{AsWritten, Small}
 use Rattle.text.specs.declared.Found.{Found}
 use Rattle.text.specs.declared.Found.the-variants.{At, Nowhere}
 
@@ -50,8 +48,3 @@ place x s = front (λ b. not (eqb b x)) s
 -- A to Z as a to z, every other byte as it is
 abbrev pub small : ℕ → ℕ
 small b = elim (leb 65 b && leb b 90) [ true ↦ b + 32 | false ↦ b ]
-
--- a byte as it is read
-abbrev pub read : Case → ℕ → ℕ
-read AsWritten b = b
-read Small b = small b

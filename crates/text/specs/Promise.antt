@@ -3,11 +3,9 @@ use Prim.Native.Nat.{ℕ, _+_, _≤_}
 use mathlib.Core.Path.{_≡_}
 use mathlib.Core.Bool.{Bool, true, false}
 use mathlib.Core.List.{List}
-use lib.ListN.{length, drop}
-use Rattle.text.specs.Trim.{trim, front, inSet}
+use lib.ListN.{drop}
+use Rattle.text.specs.Trim.{front}
 use Rattle.text.specs.Bytes.{within}
-use Rattle.text.specs.declared.Part.{Part}
-use Rattle.text.specs.declared.Set.{Set}
 
 -- 0 within the bounds, and 1 otherwise
 pub record Outside (bounds : ℕ × ℕ) (b r : ℕ) : Type 0 where
@@ -22,8 +20,3 @@ Counted w s from i = from + front w (drop from s) ≡ i + front w (drop i s)
 -- four bytes that are all within the bounds
 pub record Four (bounds : ℕ × ℕ) (s : List ℕ) (i : ℕ) (r : Bool) : Type 0 where
   pub all : r ≡ true → Counted (within bounds) s i (i + 4)
-
--- the trimmed part of s: where it starts, and how long it is
-pub record Trims (set : Set) (s : List ℕ) (p : Part) : Type 0 where
-  pub start : p .start ≡ front (inSet set) s
-  pub len : p .len ≡ length (trim (inSet set) s)

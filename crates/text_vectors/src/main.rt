@@ -198,9 +198,9 @@ fn texts() {
 // A text trimmed of each set, between brackets.
 fn trims(s: &[u8]) {
     io::write_all(1, b"[");
-    io::write_all(1, text::trim(s, Set::Six));
+    io::write_all(1, trim::trim(s, Set::Six));
     io::write_all(1, b"][");
-    io::write_all(1, text::trim(s, Set::Label));
+    io::write_all(1, trim::trim(s, Set::Label));
     io::write_all(1, b"]\n");
 }
 
@@ -217,10 +217,10 @@ fn trimming() {
 
 // Whether two texts are the same, as written and in small letters; where a pattern stands first.
 fn compares(s: &[u8], other: &[u8]) {
-    digit(text::equal(s, other));
-    digit(text::equal_small(s, other));
-    digit(text::starts_with(s, other));
-    let found = text::find(s, other);
+    digit(compare::equal(s, other));
+    digit(compare::equal_small(s, other));
+    digit(compare::starts_with(s, other));
+    let found = compare::find(s, other);
     match found {
         Found::At(i) => {
             io::write_all(1, b" at ");

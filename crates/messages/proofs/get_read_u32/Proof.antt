@@ -4,7 +4,7 @@ use Rattle.messages.proofs.get_read_u32.Statement.{statement}
 use Rattle.messages.proofs.get_read_u32.Tie as tie
 use Rattle.messages.proofs.get_read_u32.Reads as reads
 use Rattle.messages.proofs.get_read_u32.Lts as lts
-use Rattle.text.proofs.starts_with.Reads as starts-with-reads
+use Rattle.compare.proofs.starts_with.Reads as starts-with-reads
 
 slice-aggregate-starts-with : tie.Need-slice-aggregate-starts-with
 slice-aggregate-starts-with c = search needs

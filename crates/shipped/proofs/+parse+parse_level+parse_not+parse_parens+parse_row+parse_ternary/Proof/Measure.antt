@@ -31,7 +31,7 @@ use Rattle.shipped.proofs.parse_int.Reads as parse-int-reads
 use Rattle.scan.proofs.place_of.Reads as place-of-reads
 use Rattle.scan.proofs.row_of.Reads as row-of-reads
 use Rattle.scan.proofs.width_of.Reads as width-of-reads
-use Rattle.text.proofs.trim.Reads as trim-reads
+use Rattle.trim.proofs.trim.Reads as trim-reads
 
 abbrev pub μ-parse : Measures 4 parse-kinds.ps ℕ
 μ-parse κs a = 5 * length (a .0 .now) + 4

@@ -1,0 +1,4 @@
+pub mod Sets
+pub mod Trimming
+pub mod Middle
+pub mod Unique
