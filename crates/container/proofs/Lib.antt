@@ -1,5 +1,4 @@
 pub mod Rules
-pub mod Headers
 pub mod Rest
 pub mod Loading
 pub mod Accepted

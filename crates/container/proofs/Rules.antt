@@ -1,5 +1,5 @@
 -- The stages that read a rule, and what the load's stages say of one another's values. Assumes nothing.
-use Prim.Native.Nat.{ℕ, _+_, _-_, _^_, _<_, _≤_}
+use Prim.Native.Nat.{ℕ, _+_, _-_, _≤_}
 use mathlib.Core.Path.{_≡_, refl, ap, _∙_}
 use mathlib.Core.Bool.{true, false}
 use mathlib.Core.List.{List}
@@ -13,13 +13,14 @@ use Rattle.plurals.specs.declared.Reading.{Reading}
 use Rattle.plurals.specs.declared.Parsed.{Parsed}
 use Rattle.container.specs.Catalog as load
 use Rattle.container.specs.Catalog.{next, stop, ruled, forcedRule}
-use Rattle.container.specs.Promise.{Gives, Chooses, stepOutcome, treeOf, parsedOutcome, endOfRule}
+use Rattle.container.specs.Promise.{Gives, Chooses, stepOutcome, treeOf, parsedOutcome}
 use Rattle.messages.specs.declared.Error.{Error}
 use Rattle.container.specs.declared.Options.{Options}
 use Rattle.container.specs.declared.Outcome.{Outcome}
 use Rattle.container.specs.declared.Ruled.{Ruled}
-use Rattle.container.specs.declared.First.{First}
-use Rattle.container.specs.declared.First.the-variants as first
+use Rattle.first.specs.First.{endOfRule}
+use Rattle.first.specs.declared.First.{First}
+use Rattle.first.specs.declared.First.the-variants as first
 
 pub three : 3 ≡ size defaultTree
 unfolding size
@@ -53,10 +54,6 @@ forced-read o s e g = let z : forcedRule o s ≡ load.rule (o .reading) s = take
 
 pub none-forced : (o : Options) (s : List ℕ) {r : Ruled} → o .forced ≡ false → Gives (next defaultTree) r → Gives (forcedRule o s) r
 none-forced o s e g = let z : forcedRule o s ≡ next defaultTree = left _ _ e in rw z g
-
--- a place that is counted from k bytes earlier
-pub rule-moves : (k : ℕ) {f : First} {a l : ℕ} → f ≡ first.Rule a l → k + endOfRule f < 2 ^ 64 → k + a < 2 ^ 64
-rule-moves k {f} {a} {l} e h = let z : k + (a + l) < 2 ^ 64 = rw e at h in omega arith
 
 -- the header's rule takes the place of the one before
 pub rule-end : {f : First} {a l : ℕ} → f ≡ first.Rule a l → (n : ℕ) → endOfRule f ≤ n → a + l ≤ n

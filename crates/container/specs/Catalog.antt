@@ -1,16 +1,12 @@
 -- Loading a catalog. Document 01, "Loading, in order", 1 and 4 to 6. A stage hands on its value or the load ends with its refusal;
 -- what is handed on from stage to stage is the rule so far.
 use Prim.Native.Nat.{ℕ, zero, suc}
-use mathlib.Core.Bool.{Bool, true, false, _||_}
-use mathlib.Core.List.{List, [], _∷_}
+use mathlib.Core.Bool.{Bool, true, false}
+use mathlib.Core.List.{List}
 use lib.ListN.{length, take, drop}
 use Rattle.text.specs.Trim.{six}
 use Rattle.rules.specs.Tree.{Tree}
-use Rattle.header.specs.Header.{metadata, utf8Label}
-use Rattle.header.specs.declared.Place.{Place}
-use Rattle.header.specs.declared.Place.the-variants as place
-use Rattle.header.specs.declared.Metadata.{Metadata}
-use Rattle.header.specs.declared.Metadata.the-variants as metadata
+use Rattle.header.specs.Header.{metadata}
 use Rattle.plurals.specs.Plurals.{parsed, outcomeOf, treeIn, defaultTree}
 use Rattle.plurals.specs.declared.Reading.{Reading}
 use Rattle.plurals.specs.declared.Parsed.{Parsed}
@@ -18,14 +14,15 @@ use Rattle.plurals.specs.declared.Parsed.the-variants as parsed
 use Rattle.layout.specs.Mo.{segments}
 use Rattle.messages.specs.Messages.{headOf, readAt}
 use Rattle.messages.specs.declared.Error.{Error}
-use Rattle.messages.specs.declared.Error.the-variants.{MalformedMetadata, PluralParsing, UnknownEncoding, RuleTooLong, PoolFull}
+use Rattle.messages.specs.declared.Error.the-variants.{PluralParsing, RuleTooLong, PoolFull}
 use Rattle.container.specs.declared.Options.{Options}
 use Rattle.messages.specs.declared.Head.{Head}
 use Rattle.messages.specs.declared.Head.the-variants as head
 use Rattle.messages.specs.declared.Read.{Read}
 use Rattle.messages.specs.declared.Read.the-variants as read
-use Rattle.container.specs.declared.First.{First}
-use Rattle.container.specs.declared.First.the-variants as first
+use Rattle.first.specs.First.{headed, segment0}
+use Rattle.first.specs.declared.First.{First}
+use Rattle.first.specs.declared.First.the-variants as first
 
 pub data Step : Type 0 where
   next : Tree → Step
@@ -48,37 +45,16 @@ rule reading s = ruled (outcomeOf (parsed reading s)) (treeIn (parsed reading s)
 abbrev pub forcedRule : Options → List ℕ → Step
 forcedRule o f = elim (o .forced) [ true ↦ rule (o .reading) f | false ↦ next defaultTree ]
 
--- 6. the charset label, if there is one
-abbrev pub labelOk : List ℕ → Place → Bool
-labelOk h (place.At start len) = utf8Label (take len (drop start h))
-labelOk h place.Absent = true
-
--- where the rule lies that the header gives; a forced one stands instead
-abbrev pub placed : Place → First
-placed (place.At start len) = first.Rule start len
-placed place.Absent = first.NoRule
-
-abbrev pub headed : Options → List ℕ → Metadata → First
-headed o h metadata.Malformed = first.Refused MalformedMetadata
-headed o h (metadata.Fields label rule) =
-    elim (o .utf8 || labelOk h label) [
-      | true ↦ elim (o .forced) [ true ↦ first.NoRule | false ↦ placed rule ]
-      | false ↦ first.Refused UnknownEncoding
-    ]
-
+-- 6. the header, and the rule where it lies
 abbrev pub ruleIn : Reading → List ℕ → Tree → First → Step
 ruleIn reading h t (first.Rule start len) = rule reading (take len (drop start h))
 ruleIn reading h t first.NoRule = next t
 ruleIn reading h t (first.Refused e) = stop e
 
 unfoldable pub header : Options → List ℕ → Tree → Step
-header o h t = ruleIn (o .reading) h t (headed o h (metadata six h))
+header o h t = ruleIn (o .reading) h t (headed (o .forced) (o .utf8) h (metadata six h))
 
 -- an entry; the header is segment 0 of its translation
-abbrev pub segment0 : List (List ℕ) → List ℕ
-segment0 [] = []
-segment0 (p ∷ ps) = p
-
 unfoldable pub entryStep : Options → List ℕ → Tree → Read → Step
 unfolding header
 entryStep o s t (read.Refused e) = stop e

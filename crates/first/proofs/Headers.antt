@@ -1,5 +1,5 @@
 -- The header as the code meets it: its parts lie in it, and it lies in the file. Assumes nothing.
-use Prim.Native.Nat.{ℕ, zero, suc, _+_, _-_, _≤_}
+use Prim.Native.Nat.{ℕ, zero, suc, _+_, _-_, _^_, _<_, _≤_}
 use mathlib.Core.Path.{_≡_, refl, sym, ap, _∙_}
 use mathlib.Core.Bool.{Bool, true, false, _||_}
 use mathlib.Core.List.{List, [], _∷_}
@@ -13,7 +13,6 @@ use Rattle.text.specs.Bytes.{place}
 use Rattle.text.specs.Cut.{cut}
 use Rattle.text.proofs.Tests.{taken, left, by-test}
 use Rattle.text.proofs.Cuts.{cut-first, cut-whole, place-length}
-use Rattle.rules.specs.Tree.{Tree}
 use Rattle.header.specs.Header.{metadata, utf8Label}
 use Rattle.header.specs.Promise.{endOf}
 use Rattle.header.specs.declared.Place.{Place}
@@ -21,14 +20,11 @@ use Rattle.header.specs.declared.Place.the-variants.{At, Absent}
 use Rattle.header.specs.declared.Metadata.{Metadata}
 use Rattle.header.specs.declared.Metadata.the-variants.{Malformed, Fields}
 use Rattle.header.proofs.Ends.{Inside, fields-end}
-use Rattle.plurals.specs.declared.Reading.{Reading}
 use Rattle.layout.specs.Mo.{segments}
-use Rattle.container.specs.Catalog.{rule, labelOk, placed, headed, ruleIn, header, segment0}
-use Rattle.container.specs.Promise.{shifted, endOfRule, ruleAt, headerAt}
 use Rattle.messages.specs.declared.Error.the-variants.{MalformedMetadata, UnknownEncoding}
-use Rattle.container.specs.declared.Options.{Options}
-use Rattle.container.specs.declared.First.{First}
-use Rattle.container.specs.declared.First.the-variants.{Rule, NoRule, Refused}
+use Rattle.first.specs.First.{labelOk, placed, headed, ruleAt, segment0, shifted, headerAt, endOfRule}
+use Rattle.first.specs.declared.First.{First}
+use Rattle.first.specs.declared.First.the-variants.{Rule, NoRule, Refused}
 
 -- a label at a place
 pub label-fits : {p : Place} {a l : ℕ} (n : ℕ) → p ≡ At a l → endOf p ≤ n → a + l ≤ n
@@ -50,8 +46,8 @@ pub label-absent : (h : List ℕ) {p : Place} {u : Bool} → u ≡ false → p �
 label-absent h e f = or-second e (rw f)
 
 -- where the rule lies
-module _ (o : Options) (h : List ℕ) {m : Metadata} (e : m ≡ metadata six h) where
-  pub malformed : m ≡ Malformed → Refused MalformedMetadata ≡ ruleAt o h
+module _ (forced utf8 : Bool) (h : List ℕ) {m : Metadata} (e : m ≡ metadata six h) where
+  pub malformed : m ≡ Malformed → Refused MalformedMetadata ≡ ruleAt forced utf8 h
   unfolding ruleAt
   malformed f = rw (← e, f)
 
@@ -59,37 +55,41 @@ module _ (o : Options) (h : List ℕ) {m : Metadata} (e : m ≡ metadata six h) 
     pub inside : Inside h p q
     inside = fields-end h (sym e ∙ f)
 
-    at-fields : ruleAt o h ≡ headed o h (Fields p q)
+    at-fields : ruleAt forced utf8 h ≡ headed forced utf8 h (Fields p q)
     unfolding ruleAt
     at-fields = rw (← e, f)
 
-    module _ {k : Bool} (g : k ≡ (o .utf8 || labelOk h p)) where
-      pub unknown : k ≡ false → Refused UnknownEncoding ≡ ruleAt o h
+    module _ {k : Bool} (g : k ≡ (utf8 || labelOk h p)) where
+      pub unknown : k ≡ false → Refused UnknownEncoding ≡ ruleAt forced utf8 h
       unknown t = sym (at-fields ∙ left _ _ (sym g ∙ t))
 
-      pub rule-forced : k ≡ true → o .forced ≡ true → NoRule ≡ ruleAt o h
+      pub rule-forced : k ≡ true → forced ≡ true → NoRule ≡ ruleAt forced utf8 h
       rule-forced t u = sym (at-fields ∙ taken _ _ (sym g ∙ t) ∙ taken _ _ u)
 
-      pub rule-given : {r : First} → k ≡ true → o .forced ≡ false → r ≡ placed q → r ≡ ruleAt o h
+      pub rule-given : {r : First} → k ≡ true → forced ≡ false → r ≡ placed q → r ≡ ruleAt forced utf8 h
       rule-given t u v = v ∙ sym (at-fields ∙ taken _ _ (sym g ∙ t) ∙ left _ _ u)
 
 placed-end : (q : Place) → endOfRule (placed q) ≡ endOf q
 placed-end (At a l) = refl
 placed-end Absent = refl
 
-headed-end : (o : Options) (h : List ℕ) (m : Metadata) → metadata six h ≡ m → endOfRule (headed o h m) ≤ length h
-headed-end o h Malformed e = omega arith
-headed-end o h (Fields p q) e =
-    by-test (endOfRule (headed o h (Fields p q)) ≤ length h) (o .utf8 || labelOk h p)
+headed-end : (forced utf8 : Bool) (h : List ℕ) (m : Metadata) → metadata six h ≡ m → endOfRule (headed forced utf8 h m) ≤ length h
+headed-end forced utf8 h Malformed e = omega arith
+headed-end forced utf8 h (Fields p q) e =
+    by-test (endOfRule (headed forced utf8 h (Fields p q)) ≤ length h) (utf8 || labelOk h p)
     (λ t.
-    by-test (endOfRule (headed o h (Fields p q)) ≤ length h) (o .forced)
-    (λ u. let z : headed o h (Fields p q) ≡ NoRule = taken _ _ t ∙ taken _ _ u in rw z (omega arith))
-    (λ u. let z : headed o h (Fields p q) ≡ placed q = taken _ _ t ∙ left _ _ u in rw (z, placed-end q) (fields-end h e .rule)))
-    (λ t. let z : headed o h (Fields p q) ≡ Refused UnknownEncoding = left _ _ t in rw z (omega arith))
+    by-test (endOfRule (headed forced utf8 h (Fields p q)) ≤ length h) forced
+    (λ u. let z : headed forced utf8 h (Fields p q) ≡ NoRule = taken _ _ t ∙ taken _ _ u in rw z (omega arith))
+    (λ u. let z : headed forced utf8 h (Fields p q) ≡ placed q = taken _ _ t ∙ left _ _ u in rw (z, placed-end q) (fields-end h e .rule)))
+    (λ t. let z : headed forced utf8 h (Fields p q) ≡ Refused UnknownEncoding = left _ _ t in rw z (omega arith))
 
-pub rule-ends : (o : Options) (h : List ℕ) → endOfRule (ruleAt o h) ≤ length h
+pub rule-ends : (forced utf8 : Bool) (h : List ℕ) → endOfRule (ruleAt forced utf8 h) ≤ length h
 unfolding ruleAt
-rule-ends o h = headed-end o h (metadata six h) refl
+rule-ends forced utf8 h = headed-end forced utf8 h (metadata six h) refl
+
+-- a place that is counted from k bytes earlier
+pub rule-moves : (k : ℕ) {f : First} {a l : ℕ} → f ≡ Rule a l → k + endOfRule f < 2 ^ 64 → k + a < 2 ^ 64
+rule-moves k {f} {a} {l} e h = let z : k + (a + l) < 2 ^ 64 = rw e at h in omega arith
 
 -- segment 0: up to the first NUL
 segment-zero : (x : List ℕ) → segment0 (cut 0 x) ≡ take (place 0 x) x
@@ -128,13 +128,13 @@ module _ (s : List ℕ) (start len : ℕ) (i : start + len ≤ length s) where
     part-length : length (take (start + p - start) (drop start s)) ≤ p
     part-length = omega (arith, length-take (start + p - start) (drop start s))
 
-    pub rule-fits : (o : Options) {f : First} → f ≡ ruleAt o (take (start + p - start) (drop start s)) → start + endOfRule f ≤ length s
-    rule-fits o {f} g =
-        let z : endOfRule f ≤ length (take (start + p - start) (drop start s)) = rw g (rule-ends o (take (start + p - start) (drop start s))) in
+    pub rule-fits : (forced utf8 : Bool) {f : First} → f ≡ ruleAt forced utf8 (take (start + p - start) (drop start s)) → start + endOfRule f ≤ length s
+    rule-fits forced utf8 {f} g =
+        let z : endOfRule f ≤ length (take (start + p - start) (drop start s)) = rw g (rule-ends forced utf8 (take (start + p - start) (drop start s))) in
         omega (arith, part-length, p-in)
 
-    pub header-told : (o : Options) {f r : First} → f ≡ ruleAt o (take (start + p - start) (drop start s)) → r ≡ shifted start f → r ≡ headerAt o s start len
-    header-told o g k = k ∙ ap (shifted start) (g ∙ ap (ruleAt o) header-part)
+    pub header-told : (forced utf8 : Bool) {f r : First} → f ≡ ruleAt forced utf8 (take (start + p - start) (drop start s)) → r ≡ shifted start f → r ≡ headerAt forced utf8 s start len
+    header-told forced utf8 g k = k ∙ ap (shifted start) (g ∙ ap (ruleAt forced utf8) header-part)
 
   zero-length : start + length (segment0 (segments s start len)) ≤ length s
   zero-length = omega (arith, ap length zero-part, length-take (place 0 (take len (drop start s))) (drop start s), tail-length, place-length 0 (take len (drop start s)))
@@ -144,20 +144,11 @@ module _ (s : List ℕ) (start len : ℕ) (i : start + len ≤ length s) where
   shifted-end NoRule n h k = omega arith
   shifted-end (Refused e) n h k = omega arith
 
-  pub at-end : (o : Options) → endOfRule (headerAt o s start len) ≤ length s
-  at-end o = shifted-end (ruleAt o (segment0 (segments s start len))) (length (segment0 (segments s start len))) (rule-ends o (segment0 (segments s start len))) zero-length
+  pub at-end : (forced utf8 : Bool) → endOfRule (headerAt forced utf8 s start len) ≤ length s
+  at-end forced utf8 = shifted-end (ruleAt forced utf8 (segment0 (segments s start len))) (length (segment0 (segments s start len))) (rule-ends forced utf8 (segment0 (segments s start len))) zero-length
 
-  -- the rule is the same part of the header and of the file
-  same-rule : (reading : Reading) (t : Tree) (f : First) → endOfRule f ≤ length (segment0 (segments s start len))
-      → ruleIn reading s t (shifted start f) ≡ ruleIn reading (segment0 (segments s start len)) t f
-  same-rule reading t (Rule a l) h =
+  -- a part of the header is the same part of the file
+  pub same-part : (a l : ℕ) → a + l ≤ length (segment0 (segments s start len)) → take l (drop (start + a) s) ≡ take l (drop a (segment0 (segments s start len)))
+  same-part a l h =
       let n : a + l ≤ place 0 (take len (drop start s)) = omega (arith, ap length zero-part, length-take (place 0 (take len (drop start s))) (drop start s)) in
-      let z : take l (drop (start + a) s) ≡ take l (drop a (segment0 (segments s start len))) =
-      sym (ap (λ (y : List ℕ). take l (drop a y)) zero-part ∙ part-in (drop start s) a l (place 0 (take len (drop start s))) n ∙ ap (take l) (drop-drop a start s)) in
-      ap (rule reading) z
-  same-rule reading t NoRule h = refl
-  same-rule reading t (Refused e) h = refl
-
-  pub header-rule : (o : Options) (t : Tree) → ruleIn (o .reading) s t (headerAt o s start len) ≡ header o (segment0 (segments s start len)) t
-  unfolding header ruleAt
-  header-rule o t = same-rule (o .reading) t (ruleAt o (segment0 (segments s start len))) (rule-ends o (segment0 (segments s start len)))
+      sym (ap (λ (y : List ℕ). take l (drop a y)) zero-part ∙ part-in (drop start s) a l (place 0 (take len (drop start s))) n ∙ ap (take l) (drop-drop a start s))

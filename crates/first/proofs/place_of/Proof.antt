@@ -1,10 +1,10 @@
-use Rattle.container.specs.Catalog.{placed}
+use Rattle.first.specs.First.{placed}
 use Rattle.messages.proofs.Told.{told}
 use borrow.Author.Needs.{needs}
-use Rattle.container.proofs.place_of.Statement.{statement}
-use Rattle.container.proofs.place_of.Tie as tie
-use Rattle.container.proofs.place_of.Reads as reads
-use Rattle.container.proofs.place_of.Lts as lts
+use Rattle.first.proofs.place_of.Statement.{statement}
+use Rattle.first.proofs.place_of.Tie as tie
+use Rattle.first.proofs.place_of.Reads as reads
+use Rattle.first.proofs.place_of.Lts as lts
 
 enum-known-rule : tie.Need-enum-known-rule
 enum-known-rule c = search needs

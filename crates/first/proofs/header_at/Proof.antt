@@ -1,13 +1,13 @@
 -- The header ends at the translation's first NUL. Assumes nothing.
-use Rattle.container.proofs.Headers.{header-in, rule-fits, header-told}
+use Rattle.first.proofs.Headers.{header-in, rule-fits, header-told}
 use native.Mathlib.Omega.{arith}
 use borrow.Author.Needs.{needs}
-use Rattle.container.proofs.header_at.Statement.{statement}
-use Rattle.container.proofs.header_at.Tie as tie
-use Rattle.container.proofs.header_at.Reads as reads
-use Rattle.container.proofs.header_at.Lts as lts
-use Rattle.container.proofs.moved.Reads as moved-reads
-use Rattle.container.proofs.parse_header.Reads as parse-header-reads
+use Rattle.first.proofs.header_at.Statement.{statement}
+use Rattle.first.proofs.header_at.Tie as tie
+use Rattle.first.proofs.header_at.Reads as reads
+use Rattle.first.proofs.header_at.Lts as lts
+use Rattle.first.proofs.moved.Reads as moved-reads
+use Rattle.first.proofs.parse_header.Reads as parse-header-reads
 use Rattle.text.proofs.find_byte.Reads as find-byte-reads
 
 add-end : tie.Need-add-end
@@ -41,10 +41,10 @@ parse-header-requires : tie.Need-parse-header-requires
 parse-header-requires c κs = search needs
 
 moved-requires : tie.Need-moved-requires
-moved-requires c κs = omega (arith, rule-fits (c .before .before .before .before .before .args .file .now) (c .before .before .before .before .before .args .start) (c .before .before .before .before .before .args .len) (c .before .before .before .before .before .pre) (c .before .before .find-byte .ensures) (c .before .before .before .before .before .args .options) (c .parse-header .ensures))
+moved-requires c κs = omega (arith, rule-fits (c .before .before .before .before .before .args .file .now) (c .before .before .before .before .before .args .start) (c .before .before .before .before .before .args .len) (c .before .before .before .before .before .pre) (c .before .before .find-byte .ensures) (c .before .before .before .before .before .args .forced) (c .before .before .before .before .before .args .utf8) (c .parse-header .ensures))
 
 returns : tie.Need-returns
-returns c = header-told (c .before .before .before .before .before .before .args .file .now) (c .before .before .before .before .before .before .args .start) (c .before .before .before .before .before .before .args .len) (c .before .before .before .before .before .before .pre) (c .before .before .before .find-byte .ensures) (c .before .before .before .before .before .before .args .options) (c .before .parse-header .ensures) (c .moved .ensures)
+returns c = header-told (c .before .before .before .before .before .before .args .file .now) (c .before .before .before .before .before .before .args .start) (c .before .before .before .before .before .before .args .len) (c .before .before .before .before .before .before .pre) (c .before .before .before .find-byte .ensures) (c .before .before .before .before .before .before .args .forced) (c .before .before .before .before .before .before .args .utf8) (c .before .parse-header .ensures) (c .moved .ensures)
 
 pub header-at-spec : {M : Type 1} → statement M
 header-at-spec =

@@ -1,13 +1,13 @@
 use native.Mathlib.Omega.{arith}
 -- Assumes nothing.
-use Rattle.container.specs.Promise.{shifted}
-use Rattle.container.proofs.Rules.{rule-moves}
+use Rattle.first.specs.First.{shifted}
+use Rattle.first.proofs.Headers.{rule-moves}
 use Rattle.messages.proofs.Told.{told}
 use borrow.Author.Needs.{needs}
-use Rattle.container.proofs.moved.Statement.{statement}
-use Rattle.container.proofs.moved.Tie as tie
-use Rattle.container.proofs.moved.Reads as reads
-use Rattle.container.proofs.moved.Lts as lts
+use Rattle.first.proofs.moved.Statement.{statement}
+use Rattle.first.proofs.moved.Tie as tie
+use Rattle.first.proofs.moved.Reads as reads
+use Rattle.first.proofs.moved.Lts as lts
 
 enum-known-p : tie.Need-enum-known-p
 enum-known-p c = search needs

@@ -1,11 +1,11 @@
-use Rattle.container.proofs.Headers.{label-fits, utf8-forced, label-there, label-absent}
+use Rattle.first.proofs.Headers.{label-fits, utf8-forced, label-there, label-absent}
 use lib.ListN.{length}
 use native.Mathlib.Omega.{arith}
 use borrow.Author.Needs.{needs}
-use Rattle.container.proofs.is_known.Statement.{statement}
-use Rattle.container.proofs.is_known.Tie as tie
-use Rattle.container.proofs.is_known.Reads as reads
-use Rattle.container.proofs.is_known.Lts as lts
+use Rattle.first.proofs.is_known.Statement.{statement}
+use Rattle.first.proofs.is_known.Tie as tie
+use Rattle.first.proofs.is_known.Reads as reads
+use Rattle.first.proofs.is_known.Lts as lts
 use Rattle.header.proofs.is_utf8_label.Reads as is-utf8-label-reads
 
 returns : tie.Need-returns
