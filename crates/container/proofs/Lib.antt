@@ -1,4 +1,3 @@
-pub mod Rules
 pub mod Rest
 pub mod Loading
 pub mod Accepted

@@ -9,14 +9,13 @@ use Rattle.rules.specs.Tree.{Tree}
 use Rattle.rules.proofs.Stored.{size-pos}
 use Rattle.layout.specs.Mo.{segments}
 use Rattle.messages.specs.Messages.{headOf, readAt}
-use Rattle.container.specs.Catalog.{Step, next, stop, andThen, rule, forcedRule, ruleIn, header, entryStep, entriesFrom, Answer, refused, answered, catalog, loadWith, load}
-use Rattle.container.specs.Promise.{Makes, Loads, Refuses, Gives, Chooses, stepOutcome, treeOf, headOutcome, readOutcome, goOn, restFrom}
+use Rattle.container.specs.Catalog.{andThen, header, entryStep, entriesFrom, Answer, refused, answered, catalog, loadWith, load}
+use Rattle.container.specs.Promise.{Makes, Loads, Refuses, headOutcome, readOutcome, goOn, restFrom}
 use Rattle.messages.specs.declared.Error.{Error}
 use Rattle.container.specs.declared.Options.{Options}
-use Rattle.container.specs.declared.Outcome.{Outcome}
-use Rattle.container.specs.declared.Outcome.the-variants as outcome
+use Rattle.messages.specs.declared.Outcome.{Outcome}
+use Rattle.messages.specs.declared.Outcome.the-variants as outcome
 use Rattle.container.specs.declared.Loaded as loaded
-use Rattle.container.specs.declared.Ruled.{Ruled}
 use Rattle.messages.specs.declared.Head.{Head}
 use Rattle.messages.specs.declared.Head.the-variants as head
 use Rattle.messages.specs.declared.Read.{Read}
@@ -27,6 +26,10 @@ use Rattle.first.specs.declared.First.{First}
 use Rattle.first.specs.declared.First.the-variants as first
 use Rattle.first.proofs.Headers.{rule-ends, same-part}
 use Rattle.first.proofs.Entry.{first-end}
+use Rattle.choice.specs.Choice.{Step, next, stop, rule, forcedRule, ruleIn}
+use Rattle.choice.specs.Promise.{Gives, Chooses, stepOutcome, treeOf}
+use Rattle.choice.specs.declared.Ruled.{Ruled}
+use Rattle.choice.proofs.Rules.{choosing}
 
 -- a refusal, as an answer
 pub refusing : (a : Answer) {x : Error} {b : Outcome} {r : loaded.Loaded} → a ≡ refused x → b ≡ outcome.Refused x → Refuses b r → Loads a r
@@ -100,43 +103,43 @@ module _ (o : Options) (s : List ℕ) (b : Bool) (x y : ℕ) where
       ∙ rw z
 
 -- the load, stage by stage
-module _ (o : Options) (f s : List ℕ) {forced : Ruled} (g : Gives (forcedRule o f) forced) where
+module _ (o : Options) (f s : List ℕ) {forced : Ruled} (g : Gives (forcedRule (o .forced) (o .reading) f) forced) where
   pub forced-refused : {e : Error} {r : loaded.Loaded} → forced .outcome ≡ outcome.Refused e → Refuses (forced .outcome) r → Loads (load o f s) r
   unfolding load
   forced-refused {e} q w =
-      refusing (load o f s) (ap (loadWith o s) (stopped (forcedRule o f) (sym (g .outcome-is) ∙ q))) q w
+      refusing (load o f s) (ap (loadWith o s) (stopped (forcedRule (o .forced) (o .reading) f) (sym (g .outcome-is) ∙ q))) q w
 
   module _ (p : forced .outcome ≡ outcome.Loaded) where
-    so-far : forcedRule o f ≡ next (treeOf (forcedRule o f))
-    so-far = went-on (forcedRule o f) (sym (g .outcome-is) ∙ p)
+    so-far : forcedRule (o .forced) (o .reading) f ≡ next (treeOf (forcedRule (o .forced) (o .reading) f))
+    so-far = went-on (forcedRule (o .forced) (o .reading) f) (sym (g .outcome-is) ∙ p)
 
-    at-head : {h : Head} → h ≡ headOf s → load o f s ≡ catalog o s (treeOf (forcedRule o f)) h
+    at-head : {h : Head} → h ≡ headOf s → load o f s ≡ catalog o s (treeOf (forcedRule (o .forced) (o .reading) f)) h
     unfolding load
-    at-head e = ap (loadWith o s) so-far ∙ ap (catalog o s (treeOf (forcedRule o f))) (sym e)
+    at-head e = ap (loadWith o s) so-far ∙ ap (catalog o s (treeOf (forcedRule (o .forced) (o .reading) f))) (sym e)
 
     pub head-refused : {h : Head} {e : Error} {b : Outcome} {r : loaded.Loaded} → h ≡ headOf s → h ≡ head.Refused e → b ≡ headOutcome h → Refuses b r → Loads (load o f s) r
-    head-refused {h} {e} q w v z = refusing (load o f s) (at-head q ∙ ap (catalog o s (treeOf (forcedRule o f))) w) (v ∙ headless h w) z
+    head-refused {h} {e} q w v z = refusing (load o f s) (at-head q ∙ ap (catalog o s (treeOf (forcedRule (o .forced) (o .reading) f))) w) (v ∙ headless h w) z
 
     module _ {b : Bool} {k x y : ℕ} {h : Head} (q : h ≡ headOf s) (w : h ≡ head.Fields b k x y)
         {first : First} (u : first ≡ firstRule (o .forced) (o .utf8) s b x y k) where
       pub rule-inside : endOfRule first ≤ length s
       rule-inside = rw u (first-end (o .forced) (o .utf8) s b x y k)
 
-      before : Gives (next (treeOf (forcedRule o f))) forced
+      before : Gives (next (treeOf (forcedRule (o .forced) (o .reading) f))) forced
       before = rw so-far at g
 
-      at-entries : load o f s ≡ answered (length s) b k x y (andThen (ruleIn (o .reading) s (treeOf (forcedRule o f)) first) (stepOf (restFrom b s x y (k - 1) 1)))
+      at-entries : load o f s ≡ answered (length s) b k x y (andThen (ruleIn (o .reading) s (treeOf (forcedRule (o .forced) (o .reading) f)) first) (stepOf (restFrom b s x y (k - 1) 1)))
       at-entries =
-          at-head q ∙ ap (catalog o s (treeOf (forcedRule o f))) w
-          ∙ ap (answered (length s) b k x y) (all-entries o s b x y k (treeOf (forcedRule o f)))
-          ∙ ap (λ (z : First). answered (length s) b k x y (andThen (ruleIn (o .reading) s (treeOf (forcedRule o f)) z) (stepOf (restFrom b s x y (k - 1) 1)))) (sym u)
+          at-head q ∙ ap (catalog o s (treeOf (forcedRule (o .forced) (o .reading) f))) w
+          ∙ ap (answered (length s) b k x y) (all-entries o s b x y k (treeOf (forcedRule (o .forced) (o .reading) f)))
+          ∙ ap (λ (z : First). answered (length s) b k x y (andThen (ruleIn (o .reading) s (treeOf (forcedRule (o .forced) (o .reading) f)) z) (stepOf (restFrom b s x y (k - 1) 1)))) (sym u)
 
       module _ {ruled : Ruled} (c : Chooses (o .reading) s first forced ruled) where
         abbrev pub stage : Step
-        stage = ruleIn (o .reading) s (treeOf (forcedRule o f)) first
+        stage = ruleIn (o .reading) s (treeOf (forcedRule (o .forced) (o .reading) f)) first
 
         gives : Gives stage ruled
-        gives = c .chosen (treeOf (forcedRule o f)) before
+        gives = choosing (o .reading) s first c (treeOf (forcedRule (o .forced) (o .reading) f)) before
 
         pub rule-stopped : {e : Error} {r : loaded.Loaded} → ruled .outcome ≡ outcome.Refused e → Refuses (ruled .outcome) r → Loads (load o f s) r
         rule-stopped {e} i j =

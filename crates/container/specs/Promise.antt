@@ -8,23 +8,16 @@ use Rattle.rules.specs.Pool.{pool}
 use Rattle.rules.specs.declared.Rule.{Rule}
 use Rattle.rules.specs.Store.{store, size, blank}
 use Rattle.plurals.specs.Plurals.{defaultTree}
-use Rattle.plurals.specs.declared.Reading.{Reading}
-use Rattle.plurals.specs.declared.Parsed.{Parsed}
-use Rattle.plurals.specs.declared.Parsed.the-variants as parsed
 use Rattle.messages.specs.Messages.{readAt}
-use Rattle.container.specs.Catalog.{Step, next, stop, Answer, accepted, refused, ruleIn}
-use Rattle.messages.specs.declared.Error.the-variants.{PluralParsing, RuleTooLong, PoolFull}
-use Rattle.container.specs.declared.Options.{Options}
-use Rattle.container.specs.declared.Outcome.{Outcome}
-use Rattle.container.specs.declared.Outcome.the-variants.{Loaded, Refused}
+use Rattle.container.specs.Catalog.{Answer, accepted, refused}
+use Rattle.messages.specs.declared.Outcome.{Outcome}
+use Rattle.messages.specs.declared.Outcome.the-variants.{Loaded, Refused}
 use Rattle.container.specs.declared.Record.{Record}
 use Rattle.container.specs.declared.Loaded as loaded
-use Rattle.container.specs.declared.Ruled.{Ruled}
 use Rattle.messages.specs.declared.Head.{Head}
 use Rattle.messages.specs.declared.Head.the-variants as head
 use Rattle.messages.specs.declared.Read.{Read}
 use Rattle.messages.specs.declared.Read.the-variants as read
-use Rattle.first.specs.declared.First.{First}
 
 -- the record, field by field; the rule's root is its last node
 pub record Holds (n : ℕ) (b : Bool) (k x y : ℕ) (t : Tree) (r : Record) : Type 0 where
@@ -62,21 +55,7 @@ pub record Refuses (b : Outcome) (r : loaded.Loaded) : Type 0 where
   pub outcome-is : r .outcome ≡ b
   pub empty : Empty (r .record)
 
--- how the load stands after a stage, and the stage's rule, the default where it ended the load
-abbrev pub stepOutcome : Step → Outcome
-stepOutcome (next t) = Loaded
-stepOutcome (stop e) = Refused e
-
-abbrev pub treeOf : Step → Tree
-treeOf (next t) = t
-treeOf (stop e) = defaultTree
-
-abbrev pub parsedOutcome : Parsed → Outcome
-parsedOutcome parsed.Rule = Loaded
-parsedOutcome parsed.PluralParsing = Refused PluralParsing
-parsedOutcome parsed.RuleTooLong = Refused RuleTooLong
-parsedOutcome parsed.PoolFull = Refused PoolFull
-
+-- how the load stands after the head, and after an entry
 abbrev pub headOutcome : Head → Outcome
 headOutcome (head.Fields b k x y) = Loaded
 headOutcome (head.Refused e) = Refused e
@@ -85,19 +64,6 @@ abbrev pub readOutcome : Read → Outcome
 readOutcome (read.Refused e) = Refused e
 readOutcome read.Message = Loaded
 readOutcome (read.Header start len) = Loaded
-
--- a rule by value, and how the load stands
-pub record Ruling (b : Outcome) (t : Tree) (r : Ruled) : Type 0 where
-  pub outcome-is : r .outcome ≡ b
-  pub nodes : pool (r .rule .codes) (r .rule .places) (r .rule .values) ≡ store t 0 blank
-  pub count : r .rule .count ≡ size t
-
-abbrev pub Gives : Step → Ruled → Type 0
-Gives a r = Ruling (stepOutcome a) (treeOf a) r
-
--- the rule at that place takes the place of the one before
-pub record Chooses (reading : Reading) (s : List ℕ) (f : First) (before r : Ruled) : Type 0 where
-  pub chosen : (t : Tree) → Gives (next t) before → Gives (ruleIn reading s t f) r
 
 -- the entries from i on, k of them: the first that is refused
 abbrev pub goOn : Outcome → Outcome → Outcome

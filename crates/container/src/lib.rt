@@ -1,27 +1,14 @@
 // Loading a catalog where it lies: a record by value, or the refusal. A port of parser.rs: `parse_catalog`. Stages answer enums; the
 // map of messages is the file itself, and the resolver is the rule's nodes in the record.
 ghost use mathlib.Core.Path.{_≡_};
-ghost use Prim.Native.Nat.{_-_, _<_, _≤_};
-ghost use lib.ListN.{length};
-ghost use Rattle.plurals.specs.Plurals.{defaultTree};
-ghost use Rattle.first.specs.First.{endOfRule};
-ghost use Rattle.container.specs.Catalog.{rule, forcedRule, load};
-ghost use Rattle.container.specs.Promise.{Makes, Empty, Loads, Refuses, Ruling, Gives, parsedOutcome, headOutcome, readOutcome};
-ghost use Rattle.container.specs.Promise.{Chooses, restFrom};
-use first::First;
-use messages::Error;
+ghost use Prim.Native.Nat.{_-_, _<_};
+ghost use Rattle.container.specs.Catalog.{load};
+ghost use Rattle.container.specs.Promise.{Makes, Empty, Loads, Refuses, headOutcome, readOutcome, restFrom};
 use messages::Head;
+use messages::Outcome;
 use messages::Read;
-use plurals::Parsed;
-use plurals::Plural;
 use plurals::Reading;
 use rules::Rule;
-
-// How the load stands.
-pub enum Outcome {
-    Loaded,
-    Refused(Error),
-}
 
 // Whether a forced rule is given, by which reading rules are read, and whether UTF-8 is forced.
 pub struct Options {
@@ -47,12 +34,6 @@ pub struct Record {
 pub struct Loaded {
     pub outcome: Outcome,
     pub record: Record,
-}
-
-// A rule, the default where the load is refused.
-struct Ruled {
-    outcome: Outcome,
-    rule: Rule,
 }
 
 // The record of a file with that rule. The root is the rule's last node.
@@ -92,49 +73,6 @@ pub fn empty() -> Record
     record_of(0, false, 0, 0, 0, rules::default_rule())
 }
 
-// The default rule, where the load stands so.
-fn default_ruled(outcome: Outcome) -> Ruled
-    ensures { λ r. ⌜ Ruling outcome defaultTree r ⌝ }
-{
-    Ruled {
-        outcome,
-        rule: rules::default_rule(),
-    }
-}
-
-// How the load stands after a rule was read.
-fn outcome_of(parsed: Parsed) -> Outcome
-    ensures { λ r. ⌜ r ≡ parsedOutcome parsed ⌝ }
-{
-    match parsed {
-        Parsed::Rule => Outcome::Loaded,
-        Parsed::PluralParsing => Outcome::Refused(Error::PluralParsing),
-        Parsed::RuleTooLong => Outcome::Refused(Error::RuleTooLong),
-        Parsed::PoolFull => Outcome::Refused(Error::PoolFull),
-    }
-}
-
-fn parse_rule(text: &[u8], reading: Reading) -> Ruled
-    ensures { λ r. ⌜ Gives (rule reading (now (text .entry))) r ⌝ }
-{
-    let plural = plurals::parse(text, reading);
-    let parsed = plural.outcome;
-    let outcome = outcome_of(parsed);
-    let rule = plural.rule;
-    Ruled { outcome, rule }
-}
-
-// The forced rule, where one is given, else the default.
-fn parse_forced(text: &[u8], options: Options) -> Ruled
-    ensures { λ r. ⌜ Gives (forcedRule options (now (text .entry))) r ⌝ }
-{
-    let reading = options.reading;
-    if options.forced {
-        return parse_rule(text, reading);
-    }
-    default_ruled(Outcome::Loaded)
-}
-
 // How the load stands after an entry.
 fn entry_outcome(entry: Read) -> Outcome
     ensures { λ r. ⌜ r ≡ readOutcome entry ⌝ }
@@ -143,21 +81,6 @@ fn entry_outcome(entry: Read) -> Outcome
         Read::Message => Outcome::Loaded,
         Read::Header(start, len) => Outcome::Loaded,
         Read::Refused(e) => Outcome::Refused(e),
-    }
-}
-
-// The rule at the header's place, where there is one, else the one before.
-fn rule_of(file: &[u8], first: First, before: Ruled, reading: Reading) -> Ruled
-    requires { ⌜ endOfRule first ≤ length (now file) ⌝ }
-    ensures { λ r. ⌜ Chooses reading (now (file .entry)) first before r ⌝ }
-{
-    match first {
-        First::Rule(start, len) => {
-            let end = start + len;
-            parse_rule(&file[start..end], reading)
-        }
-        First::NoRule => before,
-        First::Refused(e) => default_ruled(Outcome::Refused(e)),
     }
 }
 
@@ -206,7 +129,7 @@ pub fn load<'a>(file: &'a [u8], rule: &'a [u8], options: Options) -> Loaded
     ensures { λ r. ⌜ Loads (load options (now (rule .entry)) (now (file .entry))) r ⌝ }
 {
     let reading = options.reading;
-    let forced = parse_forced(rule, options);
+    let forced = choice::parse_forced(rule, options.forced, reading);
     let before = forced.outcome;
     let Outcome::Loaded = before else {
         return refused(before);
@@ -224,7 +147,7 @@ pub fn load<'a>(file: &'a [u8], rule: &'a [u8], options: Options) -> Loaded
         options.forced,
         options.utf8,
     );
-    let ruled = rule_of(file, first, forced, reading);
+    let ruled = choice::rule_of(file, first, forced, reading);
     let so_far = ruled.outcome;
     let Outcome::Loaded = so_far else {
         return refused(so_far);

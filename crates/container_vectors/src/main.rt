@@ -1,9 +1,9 @@
 // Files loaded: the number, and of a catalog its fields, and where entry 0 and its first two segments lie. One line for each file.
 use container::Options;
-use container::Outcome;
 use layout::Entry;
 use layout::Stretch;
 use messages::Error;
+use messages::Outcome;
 use plurals::Reading;
 
 fn say(text: &[u8]) {

@@ -21,6 +21,12 @@ pub enum Error {
     PoolFull,
 }
 
+// How the load stands.
+pub enum Outcome {
+    Loaded,
+    Refused(Error),
+}
+
 // The byte order, by the magic.
 enum Order {
     Big(bool),

@@ -1,26 +1,26 @@
--- The stages that read a rule, and what the load's stages say of one another's values. Assumes nothing.
+-- The stages that read a rule. Assumes nothing.
 use Prim.Native.Nat.{ℕ, _+_, _-_, _≤_}
 use mathlib.Core.Path.{_≡_, refl, ap, _∙_}
-use mathlib.Core.Bool.{true, false}
+use mathlib.Core.Bool.{Bool, true, false}
 use mathlib.Core.List.{List}
 use native.Mathlib.Omega.{arith}
 use lib.ListN.{take, drop}
 use Rattle.text.proofs.Tests.{taken, left}
+use Rattle.rules.specs.Tree.{Tree}
 use Rattle.rules.specs.Pool.{pool}
 use Rattle.rules.specs.Store.{store, size, blank}
 use Rattle.plurals.specs.Plurals.{Parse, rule, pluralParsing, ruleTooLong, poolFull, outcomeOf, treeIn, defaultTree}
 use Rattle.plurals.specs.declared.Reading.{Reading}
 use Rattle.plurals.specs.declared.Parsed.{Parsed}
-use Rattle.container.specs.Catalog as load
-use Rattle.container.specs.Catalog.{next, stop, ruled, forcedRule}
-use Rattle.container.specs.Promise.{Gives, Chooses, stepOutcome, treeOf, parsedOutcome}
 use Rattle.messages.specs.declared.Error.{Error}
-use Rattle.container.specs.declared.Options.{Options}
-use Rattle.container.specs.declared.Outcome.{Outcome}
-use Rattle.container.specs.declared.Ruled.{Ruled}
+use Rattle.messages.specs.declared.Outcome.{Outcome}
 use Rattle.first.specs.First.{endOfRule}
 use Rattle.first.specs.declared.First.{First}
 use Rattle.first.specs.declared.First.the-variants as first
+use Rattle.choice.specs.Choice as choice
+use Rattle.choice.specs.Choice.{next, stop, ruled, forcedRule, ruleIn}
+use Rattle.choice.specs.Promise.{Gives, Chosen, Chooses, stepOutcome, treeOf, parsedOutcome}
+use Rattle.choice.specs.declared.Ruled.{Ruled}
 
 pub three : 3 ≡ size defaultTree
 unfolding size
@@ -49,24 +49,33 @@ pub count-read : (p : Parse) {n : ℕ} → n ≡ size (treeIn p) → n ≡ size 
 count-read p e = rw (← read-tree p) e
 
 -- a forced rule is read, else the default stands
-pub forced-read : (o : Options) (s : List ℕ) {r : Ruled} → o .forced ≡ true → Gives (load.rule (o .reading) s) r → Gives (forcedRule o s) r
-forced-read o s e g = let z : forcedRule o s ≡ load.rule (o .reading) s = taken _ _ e in rw z g
+pub forced-read : (forced : Bool) (reading : Reading) (s : List ℕ) {r : Ruled} → forced ≡ true → Gives (choice.rule reading s) r → Gives (forcedRule forced reading s) r
+forced-read forced reading s e g = let z : forcedRule forced reading s ≡ choice.rule reading s = taken _ _ e in rw z g
 
-pub none-forced : (o : Options) (s : List ℕ) {r : Ruled} → o .forced ≡ false → Gives (next defaultTree) r → Gives (forcedRule o s) r
-none-forced o s e g = let z : forcedRule o s ≡ next defaultTree = left _ _ e in rw z g
+pub none-forced : (forced : Bool) (reading : Reading) (s : List ℕ) {r : Ruled} → forced ≡ false → Gives (next defaultTree) r → Gives (forcedRule forced reading s) r
+none-forced forced reading s e g = let z : forcedRule forced reading s ≡ next defaultTree = left _ _ e in rw z g
 
 -- the header's rule takes the place of the one before
 pub rule-end : {f : First} {a l : ℕ} → f ≡ first.Rule a l → (n : ℕ) → endOfRule f ≤ n → a + l ≤ n
 rule-end e n h = rw e at h
 
 pub rule-there : (reading : Reading) (s : List ℕ) {f : First} {a l : ℕ} {before r : Ruled} → f ≡ first.Rule a l
-    → Gives (load.rule reading (take (a + l - a) (drop a s))) r → Chooses reading s f before r
+    → Gives (choice.rule reading (take (a + l - a) (drop a s))) r → Chooses reading s f before r
 rule-there reading s {f} {a} {l} e g =
     let z : a + l - a ≡ l = omega arith in
-    record { chosen = λ t h. rw (e, ← z) g }
+    record { chosen = rw (e, ← z) g }
 
 pub rule-absent : (reading : Reading) (s : List ℕ) {f : First} {before : Ruled} → f ≡ first.NoRule → Chooses reading s f before before
-rule-absent reading s e = record { chosen = λ t h. rw e h }
+rule-absent reading s e = record { chosen = rw e refl }
 
 pub rule-refused : (reading : Reading) (s : List ℕ) {f : First} {before r : Ruled} {x : Error} → f ≡ first.Refused x → Gives (stop x) r → Chooses reading s f before r
-rule-refused reading s e g = record { chosen = λ t h. rw e g }
+rule-refused reading s e g = record { chosen = rw e g }
+
+-- the stage's rule, whatever tree was there before
+pub choosing : (reading : Reading) (s : List ℕ) (f : First) {before r : Ruled} → Chooses reading s f before r → (t : Tree) → Gives (next t) before → Gives (ruleIn reading s t f) r
+choosing reading s f c = by-place f (c .chosen)
+  where
+    by-place : (f : First) {before r : Ruled} → Chosen reading s f before r → (t : Tree) → Gives (next t) before → Gives (ruleIn reading s t f) r
+    by-place (first.Rule a l) p t h = p
+    by-place first.NoRule p t h = rw p h
+    by-place (first.Refused e) p t h = p

@@ -1,10 +1,10 @@
 use mathlib.Core.Path.{refl, _∙_}
-use Rattle.container.proofs.Rules.{three}
+use Rattle.choice.proofs.Rules.{three}
 use borrow.Author.Needs.{needs}
-use Rattle.container.proofs.default_ruled.Statement.{statement}
-use Rattle.container.proofs.default_ruled.Tie as tie
-use Rattle.container.proofs.default_ruled.Reads as reads
-use Rattle.container.proofs.default_ruled.Lts as lts
+use Rattle.choice.proofs.default_ruled.Statement.{statement}
+use Rattle.choice.proofs.default_ruled.Tie as tie
+use Rattle.choice.proofs.default_ruled.Reads as reads
+use Rattle.choice.proofs.default_ruled.Lts as lts
 use Rattle.rules.proofs.default_rule.Reads as default-rule-reads
 
 default-rule-requires : tie.Need-default-rule-requires

@@ -1,13 +1,13 @@
 use lib.ListN.{length}
-use Rattle.container.proofs.Rules.{rule-end, rule-there, rule-absent, rule-refused}
+use Rattle.choice.proofs.Rules.{rule-end, rule-there, rule-absent, rule-refused}
 use native.Mathlib.Omega.{arith}
 use borrow.Author.Needs.{needs}
-use Rattle.container.proofs.rule_of.Statement.{statement}
-use Rattle.container.proofs.rule_of.Tie as tie
-use Rattle.container.proofs.rule_of.Reads as reads
-use Rattle.container.proofs.rule_of.Lts as lts
-use Rattle.container.proofs.default_ruled.Reads as default-ruled-reads
-use Rattle.container.proofs.parse_rule.Reads as parse-rule-reads
+use Rattle.choice.proofs.rule_of.Statement.{statement}
+use Rattle.choice.proofs.rule_of.Tie as tie
+use Rattle.choice.proofs.rule_of.Reads as reads
+use Rattle.choice.proofs.rule_of.Lts as lts
+use Rattle.choice.proofs.default_ruled.Reads as default-ruled-reads
+use Rattle.choice.proofs.parse_rule.Reads as parse-rule-reads
 
 enum-known-first : tie.Need-enum-known-first
 enum-known-first c = search needs

@@ -1,10 +1,10 @@
-use Rattle.container.specs.Promise.{parsedOutcome}
+use Rattle.choice.specs.Promise.{parsedOutcome}
 use Rattle.messages.proofs.Told.{told}
 use borrow.Author.Needs.{needs}
-use Rattle.container.proofs.outcome_of.Statement.{statement}
-use Rattle.container.proofs.outcome_of.Tie as tie
-use Rattle.container.proofs.outcome_of.Reads as reads
-use Rattle.container.proofs.outcome_of.Lts as lts
+use Rattle.choice.proofs.outcome_of.Statement.{statement}
+use Rattle.choice.proofs.outcome_of.Tie as tie
+use Rattle.choice.proofs.outcome_of.Reads as reads
+use Rattle.choice.proofs.outcome_of.Lts as lts
 
 enum-told : tie.Need-enum-told
 enum-told c = search needs

@@ -1,11 +1,11 @@
 use Rattle.plurals.specs.Plurals.{parsed}
-use Rattle.container.proofs.Rules.{outcome-read, nodes-read, count-read}
+use Rattle.choice.proofs.Rules.{outcome-read, nodes-read, count-read}
 use borrow.Author.Needs.{needs}
-use Rattle.container.proofs.parse_rule.Statement.{statement}
-use Rattle.container.proofs.parse_rule.Tie as tie
-use Rattle.container.proofs.parse_rule.Reads as reads
-use Rattle.container.proofs.parse_rule.Lts as lts
-use Rattle.container.proofs.outcome_of.Reads as outcome-of-reads
+use Rattle.choice.proofs.parse_rule.Statement.{statement}
+use Rattle.choice.proofs.parse_rule.Tie as tie
+use Rattle.choice.proofs.parse_rule.Reads as reads
+use Rattle.choice.proofs.parse_rule.Lts as lts
+use Rattle.choice.proofs.outcome_of.Reads as outcome-of-reads
 use Rattle.plurals.proofs.parse.Reads as parse-reads
 
 parse-requires : tie.Need-parse-requires
