@@ -39,7 +39,7 @@ fn say_segment(file: &[u8], start: usize, len: usize, form: u64) {
     say(b", form ");
     say_number(form);
     say(b" ");
-    match layout::segment_at(file, start, len, form) {
+    match entries::segment_at(file, start, len, form) {
         Stretch::At(at, size) => say_place(at, size),
         Stretch::Outside => say(b"none"),
     }
@@ -47,7 +47,7 @@ fn say_segment(file: &[u8], start: usize, len: usize, form: u64) {
 
 fn say_entry(file: &[u8], big: bool, originals: usize, translations: usize) {
     say(b"; entry 0: ");
-    match layout::entry_at(file, big, originals, translations, 0) {
+    match entries::entry_at(file, big, originals, translations, 0) {
         Entry::At(key, key_len, start, len) => {
             say(b"key ");
             say_place(key, key_len);

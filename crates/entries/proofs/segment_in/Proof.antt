@@ -2,13 +2,13 @@
 use Prim.Native.Nat.{_-_, _≤_}
 use lib.ListN.{length}
 use Rattle.text.proofs.Cuts.{rest-after}
-use Rattle.layout.proofs.Segments.{Sought, sought-first, sought-here, sought-none, sought-on}
+use Rattle.entries.proofs.Segments.{Sought, sought-first, sought-here, sought-none, sought-on}
 use borrow.Author.Needs.{needs}
 use native.Mathlib.Omega.{arith}
-use Rattle.layout.proofs.segment_in.Statement.{statement}
-use Rattle.layout.proofs.segment_in.Tie as tie
-use Rattle.layout.proofs.segment_in.Reads as reads
-use Rattle.layout.proofs.segment_in.Lts as lts
+use Rattle.entries.proofs.segment_in.Statement.{statement}
+use Rattle.entries.proofs.segment_in.Tie as tie
+use Rattle.entries.proofs.segment_in.Reads as reads
+use Rattle.entries.proofs.segment_in.Lts as lts
 use Rattle.text.proofs.find_byte_from.Reads as find-byte-from-reads
 
 abbrev Inv-loop : tie.InvT-loop

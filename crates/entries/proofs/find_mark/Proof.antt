@@ -5,12 +5,12 @@ use native.Mathlib.Omega.{arith}
 use lib.ListN.{length}
 use borrow.Author.Needs.{needs}
 use Rattle.text.proofs.Front.{Counted, counted-end, counted-stop, counted-more, counted-narrow}
-use Rattle.layout.specs.Promise.{plain}
-use Rattle.layout.proofs.Marks.{from-start, plain-nul, plain-four, plain-other, plain-high}
-use Rattle.layout.proofs.find_mark.Statement.{statement}
-use Rattle.layout.proofs.find_mark.Tie as tie
-use Rattle.layout.proofs.find_mark.Reads as reads
-use Rattle.layout.proofs.find_mark.Lts as lts
+use Rattle.entries.specs.Promise.{plain}
+use Rattle.entries.proofs.Marks.{from-start, plain-nul, plain-four, plain-other, plain-high}
+use Rattle.entries.proofs.find_mark.Statement.{statement}
+use Rattle.entries.proofs.find_mark.Tie as tie
+use Rattle.entries.proofs.find_mark.Reads as reads
+use Rattle.entries.proofs.find_mark.Lts as lts
 use Rattle.text.proofs.span.Reads as span-reads
 
 abbrev Inv-loop : tie.InvT-loop

@@ -11,13 +11,13 @@ use borrow.Author.Tests.{ltb-true, eqb-true}
 use Rattle.text.specs.Bytes.{place}
 use Rattle.text.proofs.Tests.{taken, left, by-test}
 use Rattle.text.proofs.Walk.{rest-at}
 use Rattle.layout.specs.Mo.{string, original, hasContext, contextEnd, idStart, idEnd, context, id, key, ended, keyed, translated, entry}
 use Rattle.layout.specs.declared.Stretch.{Stretch}
 use Rattle.layout.specs.declared.Stretch.the-variants as stretch
 use Rattle.layout.specs.declared.Entry.the-variants.{At, NoEntry}
-use Rattle.layout.proofs.Marks.{stops}
+use Rattle.entries.proofs.Marks.{stops}
 use Rattle.layout.proofs.Cells.{string-told}
-use Rattle.layout.proofs.Entries.{original-length}
+use Rattle.entries.proofs.Entries.{original-length}
 
 -- the byte that was sought stands at its place
 at-place : (x : ℕ) (o : List ℕ) → place x o < length o → getD o (place x o) 0 ≡ x

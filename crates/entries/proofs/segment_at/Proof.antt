@@ -1,11 +1,11 @@
-use Rattle.layout.proofs.Segments.{segment-out, segment-in}
+use Rattle.entries.proofs.Segments.{segment-out, segment-in}
 use native.Mathlib.Omega.{arith}
 use borrow.Author.Needs.{needs}
-use Rattle.layout.proofs.segment_at.Statement.{statement}
-use Rattle.layout.proofs.segment_at.Tie as tie
-use Rattle.layout.proofs.segment_at.Reads as reads
-use Rattle.layout.proofs.segment_at.Lts as lts
-use Rattle.layout.proofs.segment_in.Reads as segment-in-reads
+use Rattle.entries.proofs.segment_at.Statement.{statement}
+use Rattle.entries.proofs.segment_at.Tie as tie
+use Rattle.entries.proofs.segment_at.Reads as reads
+use Rattle.entries.proofs.segment_at.Lts as lts
+use Rattle.entries.proofs.segment_in.Reads as segment-in-reads
 
 returns : tie.Need-returns
 returns c = segment-out _ _ _ _ (omega arith)

@@ -12,10 +12,10 @@ use Rattle.text.specs.Bytes.{place}
 use Rattle.text.specs.Cut.{cut}
 use Rattle.text.proofs.Tests.{taken, left, by-test}
 use Rattle.text.proofs.Cuts.{cut-first, cut-whole, place-length}
 use Rattle.layout.specs.Mo.{pieceAt, segment}
 use Rattle.layout.specs.declared.Stretch.the-variants.{At}
 use Rattle.layout.proofs.Cells.{never-out}
-use Rattle.layout.proofs.Segments.{past}
+use Rattle.entries.proofs.Segments.{past}
 
 -- the k-th of some pieces
 unfoldable pub nth : ℕ → List (List ℕ) → Option (List ℕ)

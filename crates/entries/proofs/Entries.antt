@@ -8,13 +8,13 @@ use lib.ListN.{length, take, drop, length-drop}
 use lib.Seq.{length-take-le}
 use borrow.Author.Tests.{lt-ltb, le-ltb}
 use Rattle.text.proofs.Tests.{taken, left}
 use Rattle.layout.specs.Mo.{string, original, idEnd, keyed, translated, entry}
-use Rattle.layout.specs.Promise.{Splits}
+use Rattle.entries.specs.Promise.{Splits}
 use Rattle.layout.specs.declared.Stretch.{Stretch}
 use Rattle.layout.specs.declared.Stretch.the-variants as stretch
 use Rattle.layout.specs.declared.Entry.the-variants.{At, NoEntry}
-use Rattle.layout.specs.declared.Parts.{Parts}
+use Rattle.entries.specs.declared.Parts.{Parts}
 use Rattle.layout.proofs.Cells.{string-told}
 
 -- the part of the file that the code takes for the original
 pub original-part : (s : List ℕ) (start len : ℕ) → take (start + len + 1 - start) (drop start s) ≡ original s start len

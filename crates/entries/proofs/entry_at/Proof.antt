@@ -1,15 +1,15 @@
 -- Cells and strings by the load's tests, then the id's ending. Assumes nothing.
 use mathlib.Core.Path.{sym, _∙_}
 use Rattle.layout.proofs.Cells.{string-told}
-use Rattle.layout.proofs.Entries.{no-original, no-id, no-translation, is-entry}
+use Rattle.entries.proofs.Entries.{no-original, no-id, no-translation, is-entry}
 use native.Mathlib.Omega.{arith}
 use borrow.Author.Needs.{needs}
-use Rattle.layout.proofs.entry_at.Statement.{statement}
-use Rattle.layout.proofs.entry_at.Tie as tie
-use Rattle.layout.proofs.entry_at.Reads as reads
-use Rattle.layout.proofs.entry_at.Lts as lts
-use Rattle.layout.proofs.split.Reads as split-reads
+use Rattle.entries.proofs.entry_at.Statement.{statement}
+use Rattle.entries.proofs.entry_at.Tie as tie
+use Rattle.entries.proofs.entry_at.Reads as reads
+use Rattle.entries.proofs.entry_at.Lts as lts
+use Rattle.entries.proofs.split.Reads as split-reads
 use Rattle.layout.proofs.string_at.Reads as string-at-reads
 
 string-at-requires : tie.Need-string-at-requires
 string-at-requires c κs = search needs

@@ -12,8 +12,8 @@ use Rattle.text.specs.Bytes.{within, place}
 use Rattle.text.proofs.Tests.{taken, left, by-test, and-left}
 use Rattle.text.proofs.Front.{front-in, front-out}
 use Rattle.text.proofs.Walk.{rest-at, rest-end}
 use Rattle.layout.specs.Mo.{contextEnd, idStart, idEnd, hasContext}
-use Rattle.layout.specs.Promise.{plain, Splits}
+use Rattle.entries.specs.Promise.{plain, Splits}
 
 pub plain-nul : (b : ℕ) → b ≡ 0 → plain b ≡ false
 plain-nul b e = rw e

@@ -1,14 +1,14 @@
 -- At the first mark: a byte 4 ends the context there; after a NUL one is still sought. Assumes nothing.
 use mathlib.Core.Path.{sym, _∙_}
-use Rattle.layout.proofs.Marks.{four-here, four-later, marked-end, marked-nul}
+use Rattle.entries.proofs.Marks.{four-here, four-later, marked-end, marked-nul}
 use native.Mathlib.Omega.{arith}
 use borrow.Author.Needs.{needs}
-use Rattle.layout.proofs.split.Statement.{statement}
-use Rattle.layout.proofs.split.Tie as tie
-use Rattle.layout.proofs.split.Reads as reads
-use Rattle.layout.proofs.split.Lts as lts
-use Rattle.layout.proofs.after_context.Reads as after-context-reads
-use Rattle.layout.proofs.find_mark.Reads as find-mark-reads
+use Rattle.entries.proofs.split.Statement.{statement}
+use Rattle.entries.proofs.split.Tie as tie
+use Rattle.entries.proofs.split.Reads as reads
+use Rattle.entries.proofs.split.Lts as lts
+use Rattle.entries.proofs.after_context.Reads as after-context-reads
+use Rattle.entries.proofs.find_mark.Reads as find-mark-reads
 use Rattle.text.proofs.find_byte_from.Reads as find-byte-from-reads
 
 find-mark-requires : tie.Need-find-mark-requires
