@@ -15,17 +15,18 @@ use Rattle.rules.specs.Tree.{Tree}
 use Rattle.layout.specs.Mo.{entry, segments}
 use Rattle.layout.specs.declared.Entry.the-variants as entries
 use Rattle.messages.specs.Messages.{headOf, readAt}
-use Rattle.container.specs.Catalog.{Step, next, stop, andThen, forcedRule, entryStep, entriesFrom, Answer, accepted, refused, answered, catalog, loadWith, load}
+use Rattle.container.specs.Catalog.{andThen, entryStep, entriesFrom, Answer, accepted, refused, answered, catalog, loadWith, load}
 use Rattle.container.specs.Promise.{Loads, readOutcome}
 use Rattle.messages.specs.declared.Error.{Error}
 use Rattle.container.specs.declared.Options.{Options}
-use Rattle.container.specs.declared.Outcome.the-variants as outcome
+use Rattle.messages.specs.declared.Outcome.the-variants as outcome
 use Rattle.container.specs.declared.Loaded as loaded
 use Rattle.messages.specs.declared.Head.{Head}
 use Rattle.messages.specs.declared.Head.the-variants as head
 use Rattle.messages.specs.declared.Read.{Read}
 use Rattle.messages.specs.declared.Read.the-variants as read
 use Rattle.messages.proofs.Entries.{IsEntry, read-entry, read-right, Words, head-words}
+use Rattle.choice.specs.Choice.{Step, next, stop, forcedRule}
 
 not-refused : (q : Read) → readOutcome q ≡ outcome.Loaded → (x : Error) → q ≡ read.Refused x → ⊥
 not-refused (read.Refused y) e x f = let z : _≡_ {A = ℕ} 0 1 = cc in omega arith
@@ -91,7 +92,7 @@ module _ (o : Options) (s : List ℕ) {n : ℕ} {b : Bool} {k x y : ℕ} {t : Tr
 
   pub accepted-whole : (f : List ℕ) → load o f s ≡ accepted n b k x y t → Whole o s n b k x y t
   unfolding load
-  accepted-whole f e = from-rule (forcedRule o f) e
+  accepted-whole f e = from-rule (forcedRule (o .forced) (o .reading) f) e
 
 -- in an accepted file every index below the count is an entry, for the record that the load returned
 pub every-entry : (o : Options) (f s : List ℕ) (r : loaded.Loaded) → Loads (load o f s) r → r .outcome ≡ outcome.Loaded → (i : ℕ) → i < r .record .count

@@ -1,5 +1,3 @@
-pub mod Rules
-pub mod Headers
 pub mod Rest
 pub mod Loading
 pub mod Accepted

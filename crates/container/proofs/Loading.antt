@@ -7,23 +7,29 @@ use native.Mathlib.Omega.{arith}
 use lib.ListN.{length}
 use Rattle.rules.specs.Tree.{Tree}
 use Rattle.rules.proofs.Stored.{size-pos}
+use Rattle.layout.specs.Mo.{segments}
 use Rattle.messages.specs.Messages.{headOf, readAt}
-use Rattle.container.specs.Catalog.{Step, next, stop, andThen, forcedRule, ruleIn, entryStep, entriesFrom, Answer, refused, answered, catalog, loadWith, load}
-use Rattle.container.specs.Promise.{Makes, Loads, Refuses, Gives, Chooses, stepOutcome, treeOf, headOutcome, readOutcome, goOn, restFrom, headerAt, firstOf, firstRule, endOfRule}
+use Rattle.container.specs.Catalog.{andThen, header, entryStep, entriesFrom, Answer, refused, answered, catalog, loadWith, load}
+use Rattle.container.specs.Promise.{Makes, Loads, Refuses, headOutcome, readOutcome, goOn, restFrom}
 use Rattle.messages.specs.declared.Error.{Error}
 use Rattle.container.specs.declared.Options.{Options}
-use Rattle.container.specs.declared.Outcome.{Outcome}
-use Rattle.container.specs.declared.Outcome.the-variants as outcome
+use Rattle.messages.specs.declared.Outcome.{Outcome}
+use Rattle.messages.specs.declared.Outcome.the-variants as outcome
 use Rattle.container.specs.declared.Loaded as loaded
-use Rattle.container.specs.declared.Ruled.{Ruled}
 use Rattle.messages.specs.declared.Head.{Head}
 use Rattle.messages.specs.declared.Head.the-variants as head
 use Rattle.messages.specs.declared.Read.{Read}
 use Rattle.messages.specs.declared.Read.the-variants as read
-use Rattle.container.specs.declared.First.{First}
-use Rattle.container.specs.declared.First.the-variants as first
-use Rattle.container.proofs.Headers.{header-rule, at-end}
 use Rattle.messages.proofs.Entries.{header-inside, header-first}
+use Rattle.first.specs.First.{ruleAt, segment0, shifted, headerAt, firstOf, firstRule, endOfRule}
+use Rattle.first.specs.declared.First.{First}
+use Rattle.first.specs.declared.First.the-variants as first
+use Rattle.first.proofs.Headers.{rule-ends, same-part}
+use Rattle.first.proofs.Entry.{first-end}
+use Rattle.choice.specs.Choice.{Step, next, stop, rule, forcedRule, ruleIn}
+use Rattle.choice.specs.Promise.{Gives, Chooses, stepOutcome, treeOf}
+use Rattle.choice.specs.declared.Ruled.{Ruled}
+use Rattle.choice.proofs.Rules.{choosing}
 
 -- a refusal, as an answer
 pub refusing : (a : Answer) {x : Error} {b : Outcome} {r : loaded.Loaded} → a ≡ refused x → b ≡ outcome.Refused x → Refuses b r → Loads a r
@@ -46,6 +52,18 @@ abbrev pub stepOf : Outcome → Tree → Step
 stepOf outcome.Loaded t = next t
 stepOf (outcome.Refused x) t = stop x
 
+-- the header's rule is the same part of the header and of the file
+module _ (o : Options) (s : List ℕ) (start len : ℕ) (i : start + len ≤ length s) where
+  same-rule : (t : Tree) (f : First) → endOfRule f ≤ length (segment0 (segments s start len))
+      → ruleIn (o .reading) s t (shifted start f) ≡ ruleIn (o .reading) (segment0 (segments s start len)) t f
+  same-rule t (first.Rule a l) h = ap (rule (o .reading)) (same-part s start len i a l h)
+  same-rule t first.NoRule h = refl
+  same-rule t (first.Refused e) h = refl
+
+  header-rule : (t : Tree) → ruleIn (o .reading) s t (headerAt (o .forced) (o .utf8) s start len) ≡ header o (segment0 (segments s start len)) t
+  unfolding header ruleAt
+  header-rule t = same-rule t (ruleAt (o .forced) (o .utf8) (segment0 (segments s start len))) (rule-ends (o .forced) (o .utf8) (segment0 (segments s start len)))
+
 module _ (o : Options) (s : List ℕ) (b : Bool) (x y : ℕ) where
   -- one entry after entry 0 hands on the rule as it is
   passed : (i : ℕ) (t : Tree) (q : Read) (rest : Outcome) (f : Tree → Step) → ((a l : ℕ) → q ≡ read.Header a l → ⊥) → f t ≡ stepOf rest t
@@ -64,95 +82,64 @@ module _ (o : Options) (s : List ℕ) (b : Bool) (x y : ℕ) where
       (rest-steps k (suc i) t (omega arith))
 
   -- entry 0
-  first-step : (t : Tree) (q : Read) → ((a l : ℕ) → q ≡ read.Header a l → a + l + 1 ≤ length s) → ruleIn (o .reading) s t (firstOf o s q) ≡ entryStep o s t q
+  first-step : (t : Tree) (q : Read) → ((a l : ℕ) → q ≡ read.Header a l → a + l + 1 ≤ length s) → ruleIn (o .reading) s t (firstOf (o .forced) (o .utf8) s q) ≡ entryStep o s t q
   unfolding entryStep
   first-step t (read.Refused e) n = refl
   first-step t read.Message n = refl
-  first-step t (read.Header a l) n = header-rule s a l (omega (arith, n a l refl)) o t
-
-  pub first-end : (count : ℕ) → endOfRule (firstRule o s b x y count) ≤ length s
-  unfolding firstRule
-  first-end zero = omega arith
-  first-end (suc k) = ends (readAt b s x y 0) (λ a l e. header-inside b s x y 0 e)
-    where
-      ends : (q : Read) → ((a l : ℕ) → q ≡ read.Header a l → a + l + 1 ≤ length s) → endOfRule (firstOf o s q) ≤ length s
-      ends (read.Refused e) n = omega arith
-      ends read.Message n = omega arith
-      ends (read.Header a l) n = at-end s a l (omega (arith, n a l refl)) o
+  first-step t (read.Header a l) n = header-rule o s a l (omega (arith, n a l refl)) t
 
   onwards : (a : Step) (rest : Outcome) (f : Tree → Step) → ((t : Tree) → f t ≡ stepOf rest t) → andThen a f ≡ andThen a (stepOf rest)
   onwards (next t) rest f g = g t
   onwards (stop e) rest f g = refl
 
   -- all entries: the rule of entry 0, then the rest
-  pub all-entries : (count : ℕ) (t : Tree) → entriesFrom o s b x y count 0 t ≡ andThen (ruleIn (o .reading) s t (firstRule o s b x y count)) (stepOf (restFrom b s x y (count - 1) 1))
+  pub all-entries : (count : ℕ) (t : Tree) → entriesFrom o s b x y count 0 t ≡ andThen (ruleIn (o .reading) s t (firstRule (o .forced) (o .utf8) s b x y count)) (stepOf (restFrom b s x y (count - 1) 1))
   unfolding entriesFrom firstRule restFrom
   all-entries zero t = refl
   all-entries (suc k) t =
       let z : suc k - 1 ≡ k = omega arith in
       ap (λ (a : Step). andThen a (entriesFrom o s b x y k 1)) (sym (first-step t (readAt b s x y 0) (λ a l e. header-inside b s x y 0 e)))
-      ∙ onwards (ruleIn (o .reading) s t (firstOf o s (readAt b s x y 0))) (restFrom b s x y k 1) (entriesFrom o s b x y k 1) (λ u. rest-steps k 1 u (omega arith))
+      ∙ onwards (ruleIn (o .reading) s t (firstOf (o .forced) (o .utf8) s (readAt b s x y 0))) (restFrom b s x y k 1) (entriesFrom o s b x y k 1) (λ u. rest-steps k 1 u (omega arith))
       ∙ rw z
 
--- entry 0 as the code meets it
-module _ (o : Options) (s : List ℕ) (b : Bool) (x y : ℕ) where
-  pub none-first : {count : ℕ} → count ≡ 0 → first.NoRule ≡ firstRule o s b x y count
-  unfolding firstRule
-  none-first e = rw e
-
-  some-first : (count : ℕ) → (count ≡ 0 → ⊥) → firstRule o s b x y count ≡ firstOf o s (readAt b s x y 0)
-  unfolding firstRule
-  some-first zero n = absurd (n refl)
-  some-first (suc k) n = refl
-
-  module _ {count : ℕ} (n : count ≡ 0 → ⊥) {q : Read} (e : q ≡ readAt b s x y 0) where
-    pub first-told : {p : Read} → q ≡ p → firstOf o s p ≡ firstRule o s b x y count
-    first-told f = sym (some-first count n ∙ ap (firstOf o s) (sym e ∙ f))
-
-    pub first-header : {a l : ℕ} {r : First} → q ≡ read.Header a l → r ≡ headerAt o s a l → r ≡ firstRule o s b x y count
-    first-header f g = g ∙ first-told f
-
-pub header-fits : (s : List ℕ) (b : Bool) (x y : ℕ) {q : Read} {a l : ℕ} → q ≡ readAt b s x y 0 → q ≡ read.Header a l → a + l ≤ length s
-header-fits s b x y e f = omega (arith, header-inside b s x y 0 (sym e ∙ f))
-
 -- the load, stage by stage
-module _ (o : Options) (f s : List ℕ) {forced : Ruled} (g : Gives (forcedRule o f) forced) where
+module _ (o : Options) (f s : List ℕ) {forced : Ruled} (g : Gives (forcedRule (o .forced) (o .reading) f) forced) where
   pub forced-refused : {e : Error} {r : loaded.Loaded} → forced .outcome ≡ outcome.Refused e → Refuses (forced .outcome) r → Loads (load o f s) r
   unfolding load
   forced-refused {e} q w =
-      refusing (load o f s) (ap (loadWith o s) (stopped (forcedRule o f) (sym (g .outcome-is) ∙ q))) q w
+      refusing (load o f s) (ap (loadWith o s) (stopped (forcedRule (o .forced) (o .reading) f) (sym (g .outcome-is) ∙ q))) q w
 
   module _ (p : forced .outcome ≡ outcome.Loaded) where
-    so-far : forcedRule o f ≡ next (treeOf (forcedRule o f))
-    so-far = went-on (forcedRule o f) (sym (g .outcome-is) ∙ p)
+    so-far : forcedRule (o .forced) (o .reading) f ≡ next (treeOf (forcedRule (o .forced) (o .reading) f))
+    so-far = went-on (forcedRule (o .forced) (o .reading) f) (sym (g .outcome-is) ∙ p)
 
-    at-head : {h : Head} → h ≡ headOf s → load o f s ≡ catalog o s (treeOf (forcedRule o f)) h
+    at-head : {h : Head} → h ≡ headOf s → load o f s ≡ catalog o s (treeOf (forcedRule (o .forced) (o .reading) f)) h
     unfolding load
-    at-head e = ap (loadWith o s) so-far ∙ ap (catalog o s (treeOf (forcedRule o f))) (sym e)
+    at-head e = ap (loadWith o s) so-far ∙ ap (catalog o s (treeOf (forcedRule (o .forced) (o .reading) f))) (sym e)
 
     pub head-refused : {h : Head} {e : Error} {b : Outcome} {r : loaded.Loaded} → h ≡ headOf s → h ≡ head.Refused e → b ≡ headOutcome h → Refuses b r → Loads (load o f s) r
-    head-refused {h} {e} q w v z = refusing (load o f s) (at-head q ∙ ap (catalog o s (treeOf (forcedRule o f))) w) (v ∙ headless h w) z
+    head-refused {h} {e} q w v z = refusing (load o f s) (at-head q ∙ ap (catalog o s (treeOf (forcedRule (o .forced) (o .reading) f))) w) (v ∙ headless h w) z
 
     module _ {b : Bool} {k x y : ℕ} {h : Head} (q : h ≡ headOf s) (w : h ≡ head.Fields b k x y)
-        {first : First} (u : first ≡ firstRule o s b x y k) where
+        {first : First} (u : first ≡ firstRule (o .forced) (o .utf8) s b x y k) where
       pub rule-inside : endOfRule first ≤ length s
-      rule-inside = rw u (first-end o s b x y k)
+      rule-inside = rw u (first-end (o .forced) (o .utf8) s b x y k)
 
-      before : Gives (next (treeOf (forcedRule o f))) forced
+      before : Gives (next (treeOf (forcedRule (o .forced) (o .reading) f))) forced
       before = rw so-far at g
 
-      at-entries : load o f s ≡ answered (length s) b k x y (andThen (ruleIn (o .reading) s (treeOf (forcedRule o f)) first) (stepOf (restFrom b s x y (k - 1) 1)))
+      at-entries : load o f s ≡ answered (length s) b k x y (andThen (ruleIn (o .reading) s (treeOf (forcedRule (o .forced) (o .reading) f)) first) (stepOf (restFrom b s x y (k - 1) 1)))
       at-entries =
-          at-head q ∙ ap (catalog o s (treeOf (forcedRule o f))) w
-          ∙ ap (answered (length s) b k x y) (all-entries o s b x y k (treeOf (forcedRule o f)))
-          ∙ ap (λ (z : First). answered (length s) b k x y (andThen (ruleIn (o .reading) s (treeOf (forcedRule o f)) z) (stepOf (restFrom b s x y (k - 1) 1)))) (sym u)
+          at-head q ∙ ap (catalog o s (treeOf (forcedRule (o .forced) (o .reading) f))) w
+          ∙ ap (answered (length s) b k x y) (all-entries o s b x y k (treeOf (forcedRule (o .forced) (o .reading) f)))
+          ∙ ap (λ (z : First). answered (length s) b k x y (andThen (ruleIn (o .reading) s (treeOf (forcedRule (o .forced) (o .reading) f)) z) (stepOf (restFrom b s x y (k - 1) 1)))) (sym u)
 
       module _ {ruled : Ruled} (c : Chooses (o .reading) s first forced ruled) where
         abbrev pub stage : Step
-        stage = ruleIn (o .reading) s (treeOf (forcedRule o f)) first
+        stage = ruleIn (o .reading) s (treeOf (forcedRule (o .forced) (o .reading) f)) first
 
         gives : Gives stage ruled
-        gives = c .chosen (treeOf (forcedRule o f)) before
+        gives = choosing (o .reading) s first c (treeOf (forcedRule (o .forced) (o .reading) f)) before
 
         pub rule-stopped : {e : Error} {r : loaded.Loaded} → ruled .outcome ≡ outcome.Refused e → Refuses (ruled .outcome) r → Loads (load o f s) r
         rule-stopped {e} i j =

@@ -9,8 +9,8 @@ use Rattle.messages.specs.Messages.{readAt}
 use Rattle.messages.specs.declared.Error.{Error}
 use Rattle.messages.specs.declared.Read.{Read}
 use Rattle.container.specs.Promise.{readOutcome, goOn, restFrom}
-use Rattle.container.specs.declared.Outcome.{Outcome}
-use Rattle.container.specs.declared.Outcome.the-variants as outcome
+use Rattle.messages.specs.declared.Outcome.{Outcome}
+use Rattle.messages.specs.declared.Outcome.the-variants as outcome
 
 -- the entries from i on decide
 module _ (big : Bool) (s : List ℕ) (originals translations count : ℕ) where

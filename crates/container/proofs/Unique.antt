@@ -8,7 +8,7 @@ use Rattle.rules.specs.Pool.{Pool}
 use Rattle.promise.proofs.One.{One}
 use Rattle.container.specs.Catalog.{Answer, accepted, refused}
 use Rattle.container.specs.Promise.{Holds, Keeps, Loads}
-use Rattle.container.specs.declared.Outcome.{Outcome}
+use Rattle.messages.specs.declared.Outcome.{Outcome}
 use Rattle.container.specs.declared.Record.{Record}
 use Rattle.container.specs.declared.Loaded as loaded
 use Rattle.container.proofs.empty.Reads as empty

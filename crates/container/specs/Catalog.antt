@@ -1,84 +1,32 @@
 -- Loading a catalog. Document 01, "Loading, in order", 1 and 4 to 6. A stage hands on its value or the load ends with its refusal;
 -- what is handed on from stage to stage is the rule so far.
 use Prim.Native.Nat.{ℕ, zero, suc}
-use mathlib.Core.Bool.{Bool, true, false, _||_}
-use mathlib.Core.List.{List, [], _∷_}
-use lib.ListN.{length, take, drop}
+use mathlib.Core.Bool.{Bool}
+use mathlib.Core.List.{List}
+use lib.ListN.{length}
 use Rattle.text.specs.Trim.{six}
 use Rattle.rules.specs.Tree.{Tree}
-use Rattle.fields.specs.declared.Place.{Place}
-use Rattle.fields.specs.declared.Place.the-variants as place
-use Rattle.header.specs.Header.{metadata, utf8Label}
-use Rattle.header.specs.declared.Metadata.{Metadata}
-use Rattle.header.specs.declared.Metadata.the-variants as metadata
-use Rattle.plurals.specs.Plurals.{parsed, outcomeOf, treeIn, defaultTree}
-use Rattle.plurals.specs.declared.Reading.{Reading}
-use Rattle.plurals.specs.declared.Parsed.{Parsed}
-use Rattle.plurals.specs.declared.Parsed.the-variants as parsed
+use Rattle.header.specs.Header.{metadata}
 use Rattle.layout.specs.Mo.{segments}
 use Rattle.messages.specs.Messages.{headOf, readAt}
 use Rattle.messages.specs.declared.Error.{Error}
-use Rattle.messages.specs.declared.Error.the-variants.{MalformedMetadata, PluralParsing, UnknownEncoding, RuleTooLong, PoolFull}
 use Rattle.container.specs.declared.Options.{Options}
 use Rattle.messages.specs.declared.Head.{Head}
 use Rattle.messages.specs.declared.Head.the-variants as head
 use Rattle.messages.specs.declared.Read.{Read}
 use Rattle.messages.specs.declared.Read.the-variants as read
-use Rattle.container.specs.declared.First.{First}
-use Rattle.container.specs.declared.First.the-variants as first
-
-pub data Step : Type 0 where
-  next : Tree → Step
-  stop : Error → Step
+use Rattle.first.specs.First.{headed, segment0}
+use Rattle.choice.specs.Choice.{Step, next, stop, forcedRule, ruleIn}
 
 abbrev pub andThen : Step → (Tree → Step) → Step
 andThen (next t) f = f t
 andThen (stop e) f = stop e
 
--- 1. a rule that is read, and the one forced
-abbrev pub ruled : Parsed → Tree → Step
-ruled parsed.Rule t = next t
-ruled parsed.PluralParsing t = stop PluralParsing
-ruled parsed.RuleTooLong t = stop RuleTooLong
-ruled parsed.PoolFull t = stop PoolFull
-
-abbrev pub rule : Reading → List ℕ → Step
-rule reading s = ruled (outcomeOf (parsed reading s)) (treeIn (parsed reading s))
-
-abbrev pub forcedRule : Options → List ℕ → Step
-forcedRule o f = elim (o .forced) [ true ↦ rule (o .reading) f | false ↦ next defaultTree ]
-
--- 6. the charset label, if there is one
-abbrev pub labelOk : List ℕ → Place → Bool
-labelOk h (place.At start len) = utf8Label (take len (drop start h))
-labelOk h place.Absent = true
-
--- where the rule lies that the header gives; a forced one stands instead
-abbrev pub placed : Place → First
-placed (place.At start len) = first.Rule start len
-placed place.Absent = first.NoRule
-
-abbrev pub headed : Options → List ℕ → Metadata → First
-headed o h metadata.Malformed = first.Refused MalformedMetadata
-headed o h (metadata.Fields label rule) =
-    elim (o .utf8 || labelOk h label) [
-      | true ↦ elim (o .forced) [ true ↦ first.NoRule | false ↦ placed rule ]
-      | false ↦ first.Refused UnknownEncoding
-    ]
-
-abbrev pub ruleIn : Reading → List ℕ → Tree → First → Step
-ruleIn reading h t (first.Rule start len) = rule reading (take len (drop start h))
-ruleIn reading h t first.NoRule = next t
-ruleIn reading h t (first.Refused e) = stop e
-
+-- 6. the header, and its rule
 unfoldable pub header : Options → List ℕ → Tree → Step
-header o h t = ruleIn (o .reading) h t (headed o h (metadata six h))
+header o h t = ruleIn (o .reading) h t (headed (o .forced) (o .utf8) h (metadata six h))
 
 -- an entry; the header is segment 0 of its translation
-abbrev pub segment0 : List (List ℕ) → List ℕ
-segment0 [] = []
-segment0 (p ∷ ps) = p
-
 unfoldable pub entryStep : Options → List ℕ → Tree → Read → Step
 unfolding header
 entryStep o s t (read.Refused e) = stop e
@@ -113,4 +61,4 @@ loadWith o s (stop e) = refused e
 -- the load of a file s with options, f being the text of the forced rule
 unfoldable pub load : Options → List ℕ → List ℕ → Answer
 unfolding entriesFrom
-load o f s = loadWith o s (forcedRule o f)
+load o f s = loadWith o s (forcedRule (o .forced) (o .reading) f)

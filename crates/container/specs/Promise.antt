@@ -1,34 +1,23 @@
 -- What the functions of this crate promise.
-use Prim.Native.Nat.{ℕ, zero, suc, _+_, _-_}
+use Prim.Native.Nat.{ℕ, zero, suc, _-_}
 use mathlib.Core.Path.{_≡_}
 use mathlib.Core.Bool.{Bool, false}
 use mathlib.Core.List.{List}
-use Rattle.text.specs.Trim.{six}
 use Rattle.rules.specs.Tree.{Tree}
 use Rattle.rules.specs.Pool.{pool}
 use Rattle.rules.specs.declared.Rule.{Rule}
 use Rattle.rules.specs.Store.{store, size, blank}
-use Rattle.header.specs.Header.{metadata}
 use Rattle.plurals.specs.Plurals.{defaultTree}
-use Rattle.plurals.specs.declared.Reading.{Reading}
-use Rattle.plurals.specs.declared.Parsed.{Parsed}
-use Rattle.plurals.specs.declared.Parsed.the-variants as parsed
-use Rattle.layout.specs.Mo.{segments}
 use Rattle.messages.specs.Messages.{readAt}
-use Rattle.container.specs.Catalog.{Step, next, stop, Answer, accepted, refused, headed, ruleIn, segment0}
-use Rattle.messages.specs.declared.Error.the-variants.{PluralParsing, RuleTooLong, PoolFull}
-use Rattle.container.specs.declared.Options.{Options}
-use Rattle.container.specs.declared.Outcome.{Outcome}
-use Rattle.container.specs.declared.Outcome.the-variants.{Loaded, Refused}
+use Rattle.container.specs.Catalog.{Answer, accepted, refused}
+use Rattle.messages.specs.declared.Outcome.{Outcome}
+use Rattle.messages.specs.declared.Outcome.the-variants.{Loaded, Refused}
 use Rattle.container.specs.declared.Record.{Record}
 use Rattle.container.specs.declared.Loaded as loaded
-use Rattle.container.specs.declared.Ruled.{Ruled}
 use Rattle.messages.specs.declared.Head.{Head}
 use Rattle.messages.specs.declared.Head.the-variants as head
 use Rattle.messages.specs.declared.Read.{Read}
 use Rattle.messages.specs.declared.Read.the-variants as read
-use Rattle.container.specs.declared.First.{First}
-use Rattle.container.specs.declared.First.the-variants as first
 
 -- the record, field by field; the rule's root is its last node
 pub record Holds (n : ℕ) (b : Bool) (k x y : ℕ) (t : Tree) (r : Record) : Type 0 where
@@ -66,21 +55,7 @@ pub record Refuses (b : Outcome) (r : loaded.Loaded) : Type 0 where
   pub outcome-is : r .outcome ≡ b
   pub empty : Empty (r .record)
 
--- how the load stands after a stage, and the stage's rule, the default where it ended the load
-abbrev pub stepOutcome : Step → Outcome
-stepOutcome (next t) = Loaded
-stepOutcome (stop e) = Refused e
-
-abbrev pub treeOf : Step → Tree
-treeOf (next t) = t
-treeOf (stop e) = defaultTree
-
-abbrev pub parsedOutcome : Parsed → Outcome
-parsedOutcome parsed.Rule = Loaded
-parsedOutcome parsed.PluralParsing = Refused PluralParsing
-parsedOutcome parsed.RuleTooLong = Refused RuleTooLong
-parsedOutcome parsed.PoolFull = Refused PoolFull
-
+-- how the load stands after the head, and after an entry
 abbrev pub headOutcome : Head → Outcome
 headOutcome (head.Fields b k x y) = Loaded
 headOutcome (head.Refused e) = Refused e
@@ -89,45 +64,6 @@ abbrev pub readOutcome : Read → Outcome
 readOutcome (read.Refused e) = Refused e
 readOutcome read.Message = Loaded
 readOutcome (read.Header start len) = Loaded
-
--- a rule by value, and how the load stands
-pub record Ruling (b : Outcome) (t : Tree) (r : Ruled) : Type 0 where
-  pub outcome-is : r .outcome ≡ b
-  pub nodes : pool (r .rule .codes) (r .rule .places) (r .rule .values) ≡ store t 0 blank
-  pub count : r .rule .count ≡ size t
-
-abbrev pub Gives : Step → Ruled → Type 0
-Gives a r = Ruling (stepOutcome a) (treeOf a) r
-
--- where the rule of entry 0 lies, as a part of the file
-abbrev pub shifted : ℕ → First → First
-shifted k (first.Rule start len) = first.Rule (k + start) len
-shifted k first.NoRule = first.NoRule
-shifted k (first.Refused e) = first.Refused e
-
-abbrev pub endOfRule : First → ℕ
-endOfRule (first.Rule start len) = start + len
-endOfRule first.NoRule = 0
-endOfRule (first.Refused e) = 0
-
-unfoldable pub ruleAt : Options → List ℕ → First
-ruleAt o h = headed o h (metadata six h)
-
-abbrev pub headerAt : Options → List ℕ → ℕ → ℕ → First
-headerAt o s start len = shifted start (ruleAt o (segment0 (segments s start len)))
-
-abbrev pub firstOf : Options → List ℕ → Read → First
-firstOf o s (read.Refused e) = first.Refused e
-firstOf o s read.Message = first.NoRule
-firstOf o s (read.Header start len) = headerAt o s start len
-
-unfoldable pub firstRule : Options → List ℕ → Bool → ℕ → ℕ → ℕ → First
-firstRule o s big originals translations zero = first.NoRule
-firstRule o s big originals translations (suc k) = firstOf o s (readAt big s originals translations 0)
-
--- the rule at that place takes the place of the one before
-pub record Chooses (reading : Reading) (s : List ℕ) (f : First) (before r : Ruled) : Type 0 where
-  pub chosen : (t : Tree) → Gives (next t) before → Gives (ruleIn reading s t f) r
 
 -- the entries from i on, k of them: the first that is refused
 abbrev pub goOn : Outcome → Outcome → Outcome

@@ -1,29 +1,14 @@
 // Loading a catalog where it lies: a record by value, or the refusal. A port of parser.rs: `parse_catalog`. Stages answer enums; the
 // map of messages is the file itself, and the resolver is the rule's nodes in the record.
 ghost use mathlib.Core.Path.{_≡_};
-ghost use mathlib.Core.Bool.{_||_};
-ghost use Prim.Native.Nat.{_+_, _-_, _^_, _<_, _≤_};
-ghost use lib.ListN.{length};
-ghost use Rattle.fields.specs.Promise.{endOf};
-ghost use Rattle.plurals.specs.Plurals.{defaultTree};
-ghost use Rattle.container.specs.Catalog.{rule, forcedRule, labelOk, placed, load};
-ghost use Rattle.container.specs.Promise.{Makes, Empty, Loads, Refuses, Ruling, Gives, parsedOutcome, headOutcome, readOutcome};
-ghost use Rattle.container.specs.Promise.{ruleAt, shifted, endOfRule, headerAt, firstRule, Chooses, restFrom};
-use fields::Place;
-use header::Metadata;
-use messages::Error;
+ghost use Prim.Native.Nat.{_-_, _<_};
+ghost use Rattle.container.specs.Catalog.{load};
+ghost use Rattle.container.specs.Promise.{Makes, Empty, Loads, Refuses, headOutcome, readOutcome, restFrom};
 use messages::Head;
+use messages::Outcome;
 use messages::Read;
-use plurals::Parsed;
-use plurals::Plural;
 use plurals::Reading;
 use rules::Rule;
-
-// How the load stands.
-pub enum Outcome {
-    Loaded,
-    Refused(Error),
-}
 
 // Whether a forced rule is given, by which reading rules are read, and whether UTF-8 is forced.
 pub struct Options {
@@ -49,19 +34,6 @@ pub struct Record {
 pub struct Loaded {
     pub outcome: Outcome,
     pub record: Record,
-}
-
-// A rule, the default where the load is refused.
-struct Ruled {
-    outcome: Outcome,
-    rule: Rule,
-}
-
-// Where the header's rule lies that is to be read.
-enum First {
-    Rule(usize, usize),
-    NoRule,
-    Refused(Error),
 }
 
 // The record of a file with that rule. The root is the rule's last node.
@@ -101,49 +73,6 @@ pub fn empty() -> Record
     record_of(0, false, 0, 0, 0, rules::default_rule())
 }
 
-// The default rule, where the load stands so.
-fn default_ruled(outcome: Outcome) -> Ruled
-    ensures { λ r. ⌜ Ruling outcome defaultTree r ⌝ }
-{
-    Ruled {
-        outcome,
-        rule: rules::default_rule(),
-    }
-}
-
-// How the load stands after a rule was read.
-fn outcome_of(parsed: Parsed) -> Outcome
-    ensures { λ r. ⌜ r ≡ parsedOutcome parsed ⌝ }
-{
-    match parsed {
-        Parsed::Rule => Outcome::Loaded,
-        Parsed::PluralParsing => Outcome::Refused(Error::PluralParsing),
-        Parsed::RuleTooLong => Outcome::Refused(Error::RuleTooLong),
-        Parsed::PoolFull => Outcome::Refused(Error::PoolFull),
-    }
-}
-
-fn parse_rule(text: &[u8], reading: Reading) -> Ruled
-    ensures { λ r. ⌜ Gives (rule reading (now (text .entry))) r ⌝ }
-{
-    let plural = plurals::parse(text, reading);
-    let parsed = plural.outcome;
-    let outcome = outcome_of(parsed);
-    let rule = plural.rule;
-    Ruled { outcome, rule }
-}
-
-// The forced rule, where one is given, else the default.
-fn parse_forced(text: &[u8], options: Options) -> Ruled
-    ensures { λ r. ⌜ Gives (forcedRule options (now (text .entry))) r ⌝ }
-{
-    let reading = options.reading;
-    if options.forced {
-        return parse_rule(text, reading);
-    }
-    default_ruled(Outcome::Loaded)
-}
-
 // How the load stands after an entry.
 fn entry_outcome(entry: Read) -> Outcome
     ensures { λ r. ⌜ r ≡ readOutcome entry ⌝ }
@@ -152,108 +81,6 @@ fn entry_outcome(entry: Read) -> Outcome
         Read::Message => Outcome::Loaded,
         Read::Header(start, len) => Outcome::Loaded,
         Read::Refused(e) => Outcome::Refused(e),
-    }
-}
-
-// UTF-8 is forced, or the label is one of UTF-8's, or there is none.
-fn is_known(h: &[u8], label: Place, utf8: bool) -> bool
-    requires { ⌜ endOf label ≤ length (now h) ⌝ }
-    ensures { λ r. ⌜ r ≡ (utf8 || labelOk (now (h .entry)) label) ⌝ }
-{
-    if utf8 {
-        return true;
-    }
-    match label {
-        Place::At(start, len) => {
-            let end = start + len;
-            header::is_utf8_label(&h[start..end])
-        }
-        Place::Absent => true,
-    }
-}
-
-fn place_of(rule: Place) -> First
-    ensures { λ r. ⌜ r ≡ placed rule ⌝ }
-{
-    match rule {
-        Place::At(start, len) => First::Rule(start, len),
-        Place::Absent => First::NoRule,
-    }
-}
-
-// The header: where in it the rule lies that is to be read. A forced rule stands instead of it.
-fn parse_header(h: &[u8], options: Options) -> First
-    ensures { λ r. ⌜ r ≡ ruleAt options (now (h .entry)) ⌝ }
-{
-    let fields = header::parse_metadata(h);
-    let Metadata::Fields(label, rule) = fields else {
-        return First::Refused(Error::MalformedMetadata);
-    };
-    if !is_known(h, label, options.utf8) {
-        return First::Refused(Error::UnknownEncoding);
-    }
-    if options.forced {
-        return First::NoRule;
-    }
-    place_of(rule)
-}
-
-// The same place, counted from k bytes earlier.
-fn moved(k: usize, p: First) -> First
-    requires { ⌜ k + endOfRule p < 2 ^ 64 ⌝ }
-    ensures { λ r. ⌜ r ≡ shifted k p ⌝ }
-{
-    match p {
-        First::Rule(start, len) => First::Rule(k + start, len),
-        First::NoRule => First::NoRule,
-        First::Refused(e) => First::Refused(e),
-    }
-}
-
-// Segment 0 of the translation at a place is the header.
-fn header_at(file: &[u8], start: usize, len: usize, options: Options) -> First
-    requires { ⌜ start + len ≤ length (now file) ⌝ }
-    ensures { λ r. ⌜ r ≡ headerAt options (now (file .entry)) start len ⌝ }
-{
-    let end = start + len;
-    let stop = start + text::find_byte(&file[start..end], 0);
-    moved(start, parse_header(&file[start..stop], options))
-}
-
-// Entry 0, which alone can be the header.
-fn parse_first(
-    file: &[u8],
-    big: bool,
-    count: usize,
-    originals: usize,
-    translations: usize,
-    options: Options,
-) -> First
-    ensures { λ r. ⌜ r ≡ firstRule options (now (file .entry)) big originals translations count ⌝ }
-{
-    if count == 0 {
-        return First::NoRule;
-    }
-    let entry = messages::parse_entry(file, big, originals, translations, 0);
-    match entry {
-        Read::Message => First::NoRule,
-        Read::Header(start, len) => header_at(file, start, len, options),
-        Read::Refused(e) => First::Refused(e),
-    }
-}
-
-// The rule at the header's place, where there is one, else the one before.
-fn rule_of(file: &[u8], first: First, before: Ruled, reading: Reading) -> Ruled
-    requires { ⌜ endOfRule first ≤ length (now file) ⌝ }
-    ensures { λ r. ⌜ Chooses reading (now (file .entry)) first before r ⌝ }
-{
-    match first {
-        First::Rule(start, len) => {
-            let end = start + len;
-            parse_rule(&file[start..end], reading)
-        }
-        First::NoRule => before,
-        First::Refused(e) => default_ruled(Outcome::Refused(e)),
     }
 }
 
@@ -302,7 +129,7 @@ pub fn load<'a>(file: &'a [u8], rule: &'a [u8], options: Options) -> Loaded
     ensures { λ r. ⌜ Loads (load options (now (rule .entry)) (now (file .entry))) r ⌝ }
 {
     let reading = options.reading;
-    let forced = parse_forced(rule, options);
+    let forced = choice::parse_forced(rule, options.forced, reading);
     let before = forced.outcome;
     let Outcome::Loaded = before else {
         return refused(before);
@@ -311,8 +138,16 @@ pub fn load<'a>(file: &'a [u8], rule: &'a [u8], options: Options) -> Loaded
     let Head::Fields(big, count, originals, translations) = head else {
         return refused(head_outcome(head));
     };
-    let first = parse_first(file, big, count, originals, translations, options);
-    let ruled = rule_of(file, first, forced, reading);
+    let first = first::parse_first(
+        file,
+        big,
+        count,
+        originals,
+        translations,
+        options.forced,
+        options.utf8,
+    );
+    let ruled = choice::rule_of(file, first, forced, reading);
     let so_far = ruled.outcome;
     let Outcome::Loaded = so_far else {
         return refused(so_far);

@@ -13,11 +13,11 @@ use Rattle.rules.specs.Answer.{resolvedOf, ratedOf}
 use Rattle.rules.specs.declared.Rated.the-variants as rated
 use Rattle.rules.proofs.Forms.{FormFromTo, rated-forms}
 use Rattle.layout.specs.Mo.{segments}
+use Rattle.messages.specs.declared.Outcome.the-variants as outcome
 use Rattle.container.specs.Catalog.{Answer, accepted, refused, load}
 use Rattle.container.specs.Promise.{Loads}
 use Rattle.container.specs.declared.Options.{Options}
 use Rattle.container.specs.declared.Loaded.{Loaded}
-use Rattle.container.specs.declared.Outcome.the-variants as outcome
 use Rattle.container.proofs.Accepted.{accepted-whole}
 use Rattle.keys.specs.Keys.{lastWith}
 use Rattle.keys.specs.declared.Hit.the-variants as hit

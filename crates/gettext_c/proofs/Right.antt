@@ -15,6 +15,8 @@ use Rattle.utf8.proofs.Texts.{empty-right}
 use Rattle.rules.specs.Pool.{Pool}
 use Rattle.rules.specs.Value.{truth}
 use Rattle.messages.specs.declared.Error.the-variants as error
+use Rattle.messages.specs.declared.Outcome.{Outcome}
+use Rattle.messages.specs.declared.Outcome.the-variants as outcome
 use Rattle.keys.specs.declared.Tables as tables
 use Rattle.lookup.specs.Lookup.{singular, plural}
 use Rattle.lookup.specs.declared.Answer as answer
@@ -22,8 +24,6 @@ use Rattle.lookup.specs.declared.Answer.the-variants as answers
 use Rattle.lookup.proofs.Found.{Found, singular-found, plural-found, segment-told}
 use Rattle.container.specs.Catalog as catalog
 use Rattle.container.specs.declared.Options.{Options}
-use Rattle.container.specs.declared.Outcome.{Outcome}
-use Rattle.container.specs.declared.Outcome.the-variants as outcome
 use Rattle.container.specs.declared.Loaded as below
 use Rattle.container.proofs.Accepted.{every-right}
 use Rattle.gettext_c.specs.Host.{isSet, outcomeNumber, tablesOf, tablesIn, IsEmpty, Loads, answerOf}

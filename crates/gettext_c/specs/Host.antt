@@ -13,9 +13,9 @@ use Rattle.rules.specs.declared.Fit.the-variants as fit
 use Rattle.plurals.specs.declared.Reading.{Reading}
 use Rattle.plurals.specs.declared.Reading.the-variants.{Shipped, Standard}
 use Rattle.messages.specs.Messages as messages
+use Rattle.messages.specs.declared.Outcome.{Outcome}
+use Rattle.messages.specs.declared.Outcome.the-variants as outcome
 use Rattle.container.specs.declared.Options.{Options}
-use Rattle.container.specs.declared.Outcome.{Outcome}
-use Rattle.container.specs.declared.Outcome.the-variants as outcome
 use Rattle.container.specs.declared.Record as below-record
 use Rattle.container.specs.declared.Loaded as below-loaded
 use Rattle.container.specs.Catalog as catalog

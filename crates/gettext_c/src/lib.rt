@@ -1,9 +1,9 @@
 // The port for a host in C or Rust, as a static library: the file is lent, numbers come back, and the host takes the text that they
 // name from its own memory. A flag is a number, any but 0 being yes, so that no record and no call that a host can make is senseless.
 use container::Options;
-use container::Outcome;
 use lookup::Why;
 use messages::Error;
+use messages::Outcome;
 use plurals::Reading;
 use rules::Fit;
 use rules::Rated;

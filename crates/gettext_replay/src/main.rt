@@ -2,11 +2,11 @@
 // list on standard input is made by `oracle/sample`, and oracle/src/sample.rs says how it is laid out. Writes how many cases agree, and
 // the place in the list of each that does not, counted from 0.
 use container::Options;
-use container::Outcome;
 use container::Record;
 use lookup::Answer;
 use lookup::Why;
 use messages::Error;
+use messages::Outcome;
 use plurals::Parsed;
 use plurals::Reading;
 use rules::Resolved;

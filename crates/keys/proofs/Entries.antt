@@ -18,7 +18,7 @@ use Rattle.layout.specs.declared.Entry.the-variants as entries
 use Rattle.layout.specs.declared.Stretch.{Stretch}
 use Rattle.layout.specs.declared.Stretch.the-variants as stretch
 use Rattle.layout.proofs.Cells.{string-told}
-use Rattle.layout.proofs.Entries.{original-length}
+use Rattle.entries.proofs.Entries.{original-length}
 use Rattle.keys.specs.Keys.{isKey, entryOf}
 use Rattle.keys.specs.Promise.{MayBe}
 use Rattle.keys.specs.declared.Tables.{Tables}

@@ -89,7 +89,7 @@ fn hit_at(file: &[u8], t: Tables, i: usize, n: usize, given: bool, context: &[u8
     if !may_be(file, t, i, n) {
         return Hit::Missing;
     }
-    let entry = layout::entry_at(file, t.big, t.originals, t.translations, i);
+    let entry = entries::entry_at(file, t.big, t.originals, t.translations, i);
     let Entry::At(at, size, start, len) = entry else {
         return Hit::Missing;
     };

@@ -1,35 +1,14 @@
 -- Each public function's promise fixes its result: any two results that it allows on the same input are equal. `Post` is the promise
 -- as the check reads it from the source. The file is lent to read only, so that it is unchanged is in its type. Assumes nothing.
-use Prim.Native.Nat.{ℕ}
-use mathlib.Core.Path.{sym, ap, ap₂, _∙_}
+use mathlib.Core.Path.{sym, _∙_}
 use Rattle.promise.proofs.One.{One}
-use Rattle.layout.specs.declared.Parts.{Parts}
 use Rattle.layout.proofs.read_u32.Reads as read-u32
 use Rattle.layout.proofs.read_u32.Kinds as read-u32-kinds
 use Rattle.layout.proofs.string_at.Reads as string-at
 use Rattle.layout.proofs.string_at.Kinds as string-at-kinds
-use Rattle.layout.proofs.split.Reads as split
-use Rattle.layout.proofs.split.Kinds as split-kinds
-use Rattle.layout.proofs.entry_at.Reads as entry-at
-use Rattle.layout.proofs.entry_at.Kinds as entry-at-kinds
-use Rattle.layout.proofs.segment_at.Reads as segment-at
-use Rattle.layout.proofs.segment_at.Kinds as segment-at-kinds
 
 pub read-u32-one : One 1 read-u32-kinds.ps read-u32-kinds.r read-u32.Post
 read-u32-one κs a u v x y p q = p .is ∙ sym (q .is)
 
 pub string-at-one : One 1 string-at-kinds.ps string-at-kinds.r string-at.Post
 string-at-one κs a u v x y p q = p ∙ sym q
-
-abbrev parts : ℕ → ℕ → ℕ → Parts
-parts x y z = record { context = x; id = y; end = z }
-
-pub split-one : One 1 split-kinds.ps split-kinds.r split.Post
-split-one κs a u v x y p q =
-    ap₂ (λ (i j : ℕ). parts i j (u .end)) (p .context ∙ sym (q .context)) (p .id ∙ sym (q .id)) ∙ ap (parts (v .context) (v .id)) (p .end ∙ sym (q .end))
-
-pub entry-at-one : One 1 entry-at-kinds.ps entry-at-kinds.r entry-at.Post
-entry-at-one κs a u v x y p q = p ∙ sym q
-
-pub segment-at-one : One 1 segment-at-kinds.ps segment-at-kinds.r segment-at.Post
-segment-at-one κs a u v x y p q = p ∙ sym q

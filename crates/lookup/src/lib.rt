@@ -30,7 +30,7 @@ fn form_or(file: &[u8], hit: Hit, form: u64, other: Answer) -> Answer
     let Hit::At(entry, start, len) = hit else {
         return other;
     };
-    let segment = layout::segment_at(file, start, len, form);
+    let segment = entries::segment_at(file, start, len, form);
     let Stretch::At(at, n) = segment else {
         return other;
     };

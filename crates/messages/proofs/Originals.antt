@@ -14,12 +14,12 @@ use Rattle.text.proofs.Tests.{taken, left, by-test}
 use Rattle.utf8.proofs.Texts.{right-by-pieces}
 use Rattle.text.proofs.Cuts.{place-length}
 use Rattle.layout.specs.Mo.{string, contextEnd, idStart, idEnd, hasContext, context, id, segments}
-use Rattle.layout.specs.Promise.{Splits}
-use Rattle.layout.specs.declared.Parts.{Parts}
 use Rattle.layout.specs.declared.Stretch.{Stretch}
 use Rattle.layout.specs.declared.Stretch.the-variants as stretch
 use Rattle.layout.proofs.Cells.{string-told}
-use Rattle.layout.proofs.Entries.{original-part}
+use Rattle.entries.specs.Promise.{Splits}
+use Rattle.entries.specs.declared.Parts.{Parts}
+use Rattle.entries.proofs.Entries.{original-part}
 use Rattle.messages.specs.Messages.{identified, originalOf, originalIn, translationIn}
 use Rattle.messages.specs.declared.Error.the-variants.{Eof, DecodingError, MisplacedMetadata}
 use Rattle.messages.specs.declared.Original.{Original}

@@ -21,6 +21,12 @@ pub enum Error {
     PoolFull,
 }
 
+// How the load stands.
+pub enum Outcome {
+    Loaded,
+    Refused(Error),
+}
+
 // The byte order, by the magic.
 enum Order {
     Big(bool),
@@ -101,7 +107,7 @@ pub fn parse_head(file: &[u8]) -> Head
 fn parse_original(original: &[u8], i: usize) -> Original
     ensures { λ r. ⌜ r ≡ originalOf i (now (original .entry)) ⌝ }
 {
-    let parts = layout::split(original);
+    let parts = entries::split(original);
     let context = parts.context;
     let id = parts.id;
     let end = parts.end;

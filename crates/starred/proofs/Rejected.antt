@@ -29,10 +29,10 @@ use Rattle.plurals.specs.Plurals.{made, tested, parsed, defaultTree, Parses}
 use Rattle.header.specs.Header.{plural}
 use Rattle.layout.specs.Mo.{word, string, contextEnd, idStart, idEnd, context, id, entry, pieceAt, segment}
 use Rattle.messages.specs.Messages.{orderOf, headOf, originalOf, readAt}
+use Rattle.messages.specs.declared.Outcome.the-variants.{Loaded}
 use Rattle.container.specs.Catalog.{header, entryStep, entriesFrom, load}
 use Rattle.container.specs.Promise.{Loads}
 use Rattle.container.specs.declared.Loaded as loading
-use Rattle.container.specs.declared.Outcome.the-variants.{Loaded}
 use Rattle.keys.specs.Keys.{lastIn, lastWith}
 use Rattle.lookup.specs.Lookup as lookup
 use Rattle.lookup.specs.Lookup.{singular}

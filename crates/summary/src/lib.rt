@@ -1,9 +1,9 @@
 // What the program `mo` does: it reads a catalog of at most 65,536 bytes, in the Shipped reading, and writes how many entries it has and
 // the range of its rule, or the refusal. A library, so that another program can run it on files of its own.
 use container::Options;
-use container::Outcome;
 use container::Record;
 use messages::Error;
+use messages::Outcome;
 use plurals::Reading;
 use rules::Rated;
 ghost use mathlib.Core.Path.{_≡_};

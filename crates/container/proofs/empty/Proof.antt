@@ -1,6 +1,6 @@
 use mathlib.Core.Path.{_∙_}
 use Rattle.plurals.specs.Plurals.{defaultTree}
-use Rattle.container.proofs.Rules.{three}
+use Rattle.choice.proofs.Rules.{three}
 use native.Mathlib.Omega.{arith}
 use borrow.Author.Needs.{needs}
 use Rattle.container.proofs.empty.Statement.{statement}

@@ -7,12 +7,12 @@ use Rattle.container.proofs.load.Tie as tie
 use Rattle.container.proofs.load.Reads as reads
 use Rattle.container.proofs.load.Lts as lts
 use Rattle.container.proofs.head_outcome.Reads as head-outcome-reads
-use Rattle.container.proofs.parse_first.Reads as parse-first-reads
-use Rattle.container.proofs.parse_forced.Reads as parse-forced-reads
 use Rattle.container.proofs.parse_rest.Reads as parse-rest-reads
 use Rattle.container.proofs.record_of.Reads as record-of-reads
 use Rattle.container.proofs.refused.Reads as refused-reads
-use Rattle.container.proofs.rule_of.Reads as rule-of-reads
+use Rattle.choice.proofs.parse_forced.Reads as parse-forced-reads
+use Rattle.choice.proofs.rule_of.Reads as rule-of-reads
+use Rattle.first.proofs.parse_first.Reads as parse-first-reads
 use Rattle.messages.proofs.parse_head.Reads as parse-head-reads
 
 parse-forced-requires : tie.Need-parse-forced-requires

@@ -8,7 +8,7 @@ use Rattle.messages.proofs.parse_original.Statement.{statement}
 use Rattle.messages.proofs.parse_original.Tie as tie
 use Rattle.messages.proofs.parse_original.Reads as reads
 use Rattle.messages.proofs.parse_original.Lts as lts
-use Rattle.layout.proofs.split.Reads as split-reads
+use Rattle.entries.proofs.split.Reads as split-reads
 use Rattle.utf8.proofs.is_utf8.Reads as is-utf8-reads
 
 split-requires : tie.Need-split-requires

@@ -1,0 +1,2 @@
+pub mod Rules
+mod Unique
