@@ -6,8 +6,8 @@ ghost use Prim.Native.Nat.{_+_, _^_, _<_, _≤_};
 ghost use lib.ListN.{length};
 ghost use Rattle.fields.specs.Promise.{endOf};
 ghost use Rattle.first.specs.First.{labelOk, placed, ruleAt, shifted, endOfRule, headerAt, firstRule};
-use header::Metadata;
 use fields::Place;
+use header::Metadata;
 use messages::Error;
 use messages::Read;
 
