@@ -1,4 +1,5 @@
-// Which rule a load goes on with: the forced one, the header's, or the default. From parser.rs: the uses of `Resolver` in `parse_catalog`.
+// Which rule a load goes on with: the forced one, the header's, or the default. From parser.rs: where `parse_catalog` sets
+// the resolver.
 ghost use mathlib.Core.Path.{_≡_};
 ghost use Prim.Native.Nat.{_≤_};
 ghost use lib.ListN.{length};
