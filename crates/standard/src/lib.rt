@@ -185,11 +185,8 @@ pub fn standard(
         return Nodes::NoReading;
     };
     let x = token_at(s, q);
-    match x {
-        Next::End => Nodes::Read(k),
-        Next::Mark(b, e) => Nodes::NoReading,
-        Next::Number(v, e) => Nodes::NoReading,
-        Next::Sign(c, e) => Nodes::NoReading,
-        Next::Huge => Nodes::NoReading,
-    }
+    let Next::End = x else {
+        return Nodes::NoReading;
+    };
+    Nodes::Read(k)
 }

@@ -163,11 +163,8 @@ pub fn past(s: &[u8], at: usize, c: u8) -> After
     ensures { λ r. ⌜ r ≡ passed c (next (now (s .entry)) at) ⌝ }
 {
     let x = token_at(s, at);
-    match x {
-        Next::Mark(b, e) => { if b == c { After::At(e) } else { After::Other } }
-        Next::Number(v, e) => After::Other,
-        Next::Sign(o, e) => After::Other,
-        Next::End => After::Other,
-        Next::Huge => After::Other,
-    }
+    let Next::Mark(b, e) = x else {
+        return After::Other;
+    };
+    if b == c { After::At(e) } else { After::Other }
 }

@@ -1,10 +1,32 @@
 -- The loosest level from the first byte on, and then the end of the text.
+use Prim.{tt}
+use Prim.Native.Nat.{ℕ}
+use mathlib.Core.Path.{_≡_, refl}
+use mathlib.Core.List.{List, [], _∷_}
+use lib.ListN.{drop}
+use denote.Enum.Declared.{tagOf}
+use types.Run.{OneOf, miss}
+use Rattle.grammar.specs.Grammar.{Token}
+use Rattle.grammar.specs.Tokens.{tokens}
+use Rattle.tokens.specs.declared.Next.{Next}
+use Rattle.tokens.specs.declared.Next.the-variants.{End, Sign, Number, Huge, Mark}
+use Rattle.tokens.specs.Scan.{next}
+use Rattle.tokens.proofs.Next.{the-type}
 use Rattle.tokens.proofs.Nexts.{ended, signed, numbered, huge, marked}
 use Rattle.standard.proofs.Taken.{answered}
 use Rattle.standard.proofs.Whole.{whole-bad, whole-rest, whole-end}
 use borrow.Author.Needs.{needs}
 use Rattle.standard.proofs.standard.Statement.{statement}
 use Rattle.standard.proofs.standard.Tie as tie
+
+-- where the end does not stand next, a token does
+some-left : (s : List ℕ) (at : ℕ) (x : Next) {A : Type 0} → OneOf (1 ∷ 2 ∷ 3 ∷ 4 ∷ []) (tagOf the-type x) → x ≡ next s at
+    → ((t : Token) (r : List Token) → tokens (drop at s) ≡ t ∷ r → A) → A
+some-left s at End h w k = absurd (miss (1 ∷ 2 ∷ 3 ∷ 4 ∷ []) 0 tt h)
+some-left s at (Sign o e) h w k = k _ _ (signed _ _ w refl .step .is)
+some-left s at (Number v e) h w k = k _ _ (numbered _ _ w refl .step .is)
+some-left s at Huge h w k = k _ _ (huge _ _ w refl .is)
+some-left s at (Mark b e) h w k = k _ _ (marked _ _ w refl .is)
 
 read-level-requires : tie.Need-read-level-requires
 read-level-requires c κs = search needs
@@ -24,32 +46,13 @@ token-at-requires c κs = search needs
 enum-told-2 : tie.Need-enum-told-2
 enum-told-2 c = search needs
 
-enum-known-x : tie.Need-enum-known-x
-enum-known-x c = search needs
-
-enum-known-x-2 : tie.Need-enum-known-x-2
-enum-known-x-2 c = search needs
-
-enum-known-x-3 : tie.Need-enum-known-x-3
-enum-known-x-3 c = search needs
-
-enum-told-3 : tie.Need-enum-told-3
-enum-told-3 c = search needs
-
 returns-2 : tie.Need-returns-2
-returns-2 c = whole-end (answered (c .before .before .before .before .before .before .read-level .ensures) (c .before .before .before .before .whole .given .1)) (ended _ _ (c .before .before .token-at .ensures) (c .enum-told2 .given .1))
+returns-2 c =
+    some-left _ _ (c .before .token-at .result) (c .match2 .keys2) (c .before .token-at .ensures)
+    (λ t r e. whole-rest (answered (c .before .before .before .before .before .read-level .ensures) (c .before .before .before .whole .given .1)) e)
 
 returns-3 : tie.Need-returns-3
-returns-3 c = whole-rest (answered (c .before .before .before .before .before .before .before .read-level .ensures) (c .before .before .before .before .before .whole .given .1)) (marked _ _ (c .before .before .before .token-at .ensures) (c .before .x .given .1) .is)
-
-returns-4 : tie.Need-returns-4
-returns-4 c = whole-rest (answered (c .before .before .before .before .before .before .before .read-level .ensures) (c .before .before .before .before .before .whole .given .1)) (numbered _ _ (c .before .before .before .token-at .ensures) (c .before .x2 .given .1) .step .is)
-
-returns-5 : tie.Need-returns-5
-returns-5 c = whole-rest (answered (c .before .before .before .before .before .before .before .read-level .ensures) (c .before .before .before .before .before .whole .given .1)) (signed _ _ (c .before .before .before .token-at .ensures) (c .before .x3 .given .1) .step .is)
-
-returns-6 : tie.Need-returns-6
-returns-6 c = whole-rest (answered (c .before .before .before .before .before .before .read-level .ensures) (c .before .before .before .before .whole .given .1)) (huge _ _ (c .before .before .token-at .ensures) (c .enum-told3 .given .1) .is)
+returns-3 c = whole-end (answered (c .before .before .before .before .before .before .read-level .ensures) (c .before .before .before .before .whole .given .1)) (ended _ _ (c .before .before .token-at .ensures) (c .enum-told2 .given .1))
 
 pub standard-spec : {M : Type 1} → statement M
 standard-spec =
@@ -61,12 +64,5 @@ standard-spec =
     returns
     token-at-requires
     enum-told-2
-    enum-known-x
-    enum-known-x-2
-    enum-known-x-3
-    enum-told-3
     returns-2
-    returns-3
-    returns-4
-    returns-5
-    returns-6)
+    returns-3)
