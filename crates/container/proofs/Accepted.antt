@@ -14,18 +14,20 @@ use Rattle.text.proofs.Tests.{by-test}
 use Rattle.rules.specs.Tree.{Tree}
 use Rattle.layout.specs.Mo.{entry, segments}
 use Rattle.layout.specs.declared.Entry.the-variants as entries
-use Rattle.messages.specs.Messages.{headOf, readAt}
+use Rattle.messages.specs.Messages.{readAt}
+use Rattle.head.specs.Head.{headOf}
 use Rattle.container.specs.Catalog.{andThen, entryStep, entriesFrom, Answer, accepted, refused, answered, catalog, loadWith, load}
 use Rattle.container.specs.Promise.{Loads, readOutcome}
 use Rattle.messages.specs.declared.Error.{Error}
 use Rattle.container.specs.declared.Options.{Options}
 use Rattle.messages.specs.declared.Outcome.the-variants as outcome
 use Rattle.container.specs.declared.Loaded as loaded
-use Rattle.messages.specs.declared.Head.{Head}
-use Rattle.messages.specs.declared.Head.the-variants as head
+use Rattle.head.specs.declared.Head.{Head}
+use Rattle.head.specs.declared.Head.the-variants as head
 use Rattle.messages.specs.declared.Read.{Read}
 use Rattle.messages.specs.declared.Read.the-variants as read
-use Rattle.messages.proofs.Entries.{IsEntry, read-entry, read-right, Words, head-words}
+use Rattle.messages.proofs.Entries.{IsEntry, read-entry, read-right}
+use Rattle.head.proofs.Words.{Words, head-words}
 use Rattle.choice.specs.Choice.{Step, next, stop, forcedRule}
 
 not-refused : (q : Read) → readOutcome q ≡ outcome.Loaded → (x : Error) → q ≡ read.Refused x → ⊥

@@ -14,7 +14,8 @@ use Rattle.plurals.specs.declared.Reading.the-variants.{Standard}
 use Rattle.layout.specs.Mo.{word, string, contextEnd, idStart, idEnd, context, id, entry, pieceAt, segment}
 use Rattle.layout.specs.declared.Stretch.the-variants as stretch
 use Rattle.layout.specs.declared.Entry.the-variants as entries
-use Rattle.messages.specs.Messages.{numberOf, orderOf, headOf, originalOf, readAt}
+use Rattle.messages.specs.Messages.{numberOf, originalOf, readAt}
+use Rattle.head.specs.Head.{orderOf, headOf}
 use Rattle.container.specs.Catalog.{header, entryStep, entriesFrom, Answer, accepted, refused, load}
 use Rattle.container.specs.declared.Options.{Options}
 

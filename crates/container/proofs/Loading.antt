@@ -8,7 +8,8 @@ use lib.ListN.{length}
 use Rattle.rules.specs.Tree.{Tree}
 use Rattle.rules.proofs.Stored.{size-pos}
 use Rattle.layout.specs.Mo.{segments}
-use Rattle.messages.specs.Messages.{headOf, readAt}
+use Rattle.messages.specs.Messages.{readAt}
+use Rattle.head.specs.Head.{headOf}
 use Rattle.container.specs.Catalog.{andThen, header, entryStep, entriesFrom, Answer, refused, answered, catalog, loadWith, load}
 use Rattle.container.specs.Promise.{Makes, Loads, Refuses, headOutcome, readOutcome, goOn, restFrom}
 use Rattle.messages.specs.declared.Error.{Error}
@@ -16,8 +17,8 @@ use Rattle.container.specs.declared.Options.{Options}
 use Rattle.messages.specs.declared.Outcome.{Outcome}
 use Rattle.messages.specs.declared.Outcome.the-variants as outcome
 use Rattle.container.specs.declared.Loaded as loaded
-use Rattle.messages.specs.declared.Head.{Head}
-use Rattle.messages.specs.declared.Head.the-variants as head
+use Rattle.head.specs.declared.Head.{Head}
+use Rattle.head.specs.declared.Head.the-variants as head
 use Rattle.messages.specs.declared.Read.{Read}
 use Rattle.messages.specs.declared.Read.the-variants as read
 use Rattle.messages.proofs.Entries.{header-inside, header-first}

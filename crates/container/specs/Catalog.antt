@@ -8,11 +8,12 @@ use Rattle.text.specs.Trim.{six}
 use Rattle.rules.specs.Tree.{Tree}
 use Rattle.header.specs.Header.{metadata}
 use Rattle.layout.specs.Mo.{segments}
-use Rattle.messages.specs.Messages.{headOf, readAt}
+use Rattle.messages.specs.Messages.{readAt}
+use Rattle.head.specs.Head.{headOf}
 use Rattle.messages.specs.declared.Error.{Error}
 use Rattle.container.specs.declared.Options.{Options}
-use Rattle.messages.specs.declared.Head.{Head}
-use Rattle.messages.specs.declared.Head.the-variants as head
+use Rattle.head.specs.declared.Head.{Head}
+use Rattle.head.specs.declared.Head.the-variants as head
 use Rattle.messages.specs.declared.Read.{Read}
 use Rattle.messages.specs.declared.Read.the-variants as read
 use Rattle.first.specs.First.{headed, segment0}

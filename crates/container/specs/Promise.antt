@@ -14,8 +14,8 @@ use Rattle.messages.specs.declared.Outcome.{Outcome}
 use Rattle.messages.specs.declared.Outcome.the-variants.{Loaded, Refused}
 use Rattle.container.specs.declared.Record.{Record}
 use Rattle.container.specs.declared.Loaded as loaded
-use Rattle.messages.specs.declared.Head.{Head}
-use Rattle.messages.specs.declared.Head.the-variants as head
+use Rattle.head.specs.declared.Head.{Head}
+use Rattle.head.specs.declared.Head.the-variants as head
 use Rattle.messages.specs.declared.Read.{Read}
 use Rattle.messages.specs.declared.Read.the-variants as read
 

@@ -4,7 +4,7 @@ ghost use mathlib.Core.Path.{_≡_};
 ghost use Prim.Native.Nat.{_-_, _<_};
 ghost use Rattle.container.specs.Catalog.{load};
 ghost use Rattle.container.specs.Promise.{Makes, Empty, Loads, Refuses, headOutcome, readOutcome, restFrom};
-use messages::Head;
+use head::Head;
 use messages::Outcome;
 use messages::Read;
 use plurals::Reading;
@@ -134,7 +134,7 @@ pub fn load<'a>(file: &'a [u8], rule: &'a [u8], options: Options) -> Loaded
     let Outcome::Loaded = before else {
         return refused(before);
     };
-    let head = messages::parse_head(file);
+    let head = head::parse_head(file);
     let Head::Fields(big, count, originals, translations) = head else {
         return refused(head_outcome(head));
     };

@@ -1,28 +1,24 @@
--- Heads and entries as they were read: only entry 0 is a header, one that is not refused is an entry with UTF-8 segments, and the
--- head's fields are words of the file. Assumes nothing.
+-- Entries as they were read: only entry 0 is a header, and one that is not refused is an entry with UTF-8 segments. Assumes nothing.
 use Prim.Native.Nat.{ℕ, _+_, _≤_}
 use mathlib.Core.Path.{_≡_, refl, sym, ap, _∙_}
-use mathlib.Core.Bool.{Bool, true, _&&_}
+use mathlib.Core.Bool.{Bool, true}
 use mathlib.Core.List.{List, [], _∷_}
 use native.Mathlib.Omega.{arith}
 use lib.ListN.{length}
-use lib.Dec.{leb, ltb, eqb}
+use lib.Dec.{eqb}
 use borrow.Author.Tests.{eqb-true}
 use Rattle.utf8.specs.Utf8.{utf8}
 use Rattle.text.specs.Cut.{every}
 use Rattle.text.proofs.Tests.{taken, left, by-test}
-use Rattle.layout.specs.Mo.{word, string, original, context, id, idEnd, ended, segments, translated, keyed, entry}
+use Rattle.layout.specs.Mo.{string, original, context, id, idEnd, ended, segments, translated, keyed, entry}
 use Rattle.layout.specs.declared.Stretch.{Stretch}
 use Rattle.layout.specs.declared.Stretch.the-variants as stretch
 use Rattle.layout.specs.declared.Entry.{Entry}
 use Rattle.layout.specs.declared.Entry.the-variants as entries
 use Rattle.layout.proofs.Cells.{string-told}
-use Rattle.messages.specs.Messages.{orderOf, tables, headOf, identified, originalOf, originalIn, translationIn, joined, readAt}
+use Rattle.messages.specs.Messages.{identified, originalOf, originalIn, translationIn, joined, readAt}
 use Rattle.messages.specs.declared.Error.{Error}
 use Rattle.messages.specs.declared.Error.the-variants.{Eof, DecodingError, MisplacedMetadata}
-use Rattle.messages.specs.declared.Order.{Order}
-use Rattle.messages.specs.declared.Order.the-variants as order
-use Rattle.messages.specs.declared.Head.the-variants as head
 use Rattle.messages.specs.declared.Original.{Original}
 use Rattle.messages.specs.declared.Original.the-variants as original
 use Rattle.messages.specs.declared.Translation.{Translation}
@@ -182,30 +178,3 @@ pub read-right : (b : Bool) (s : List ℕ) (x y i : ℕ) → ((z : Error) → re
 unfolding readAt entry
 read-right b s x y i n e =
     keyed-right s (string b s x i) (string b s y i) (right-in (originalIn s i (string b s x i)) s (string b s y i) n) e
-
--- the count is the word at 8, in the file's byte order, and the tables are the words at 12 and 16
-pub record Words (s : List ℕ) (b : Bool) (k x y : ℕ) : Type 0 where
-  pub magic : orderOf s ≡ order.Big b
-  pub count : k ≡ word b s 8
-  pub originals : x ≡ word b s 12
-  pub translations : y ≡ word b s 16
-
-words-of : (s : List ℕ) (q : Order) → orderOf s ≡ q → {b : Bool} {k x y : ℕ} → tables s q ≡ head.Fields b k x y → Words s b k x y
-words-of s (order.Big c) e {b} {k} {x} {y} f =
-    by-test (Words s b k x y) (leb (word c s 12) (length s) && leb (word c s 16) (length s))
-    (λ t.
-    let g : head.Fields c (word c s 8) (word c s 12) (word c s 16) ≡ head.Fields b k x y = sym (taken _ _ t) ∙ f in
-    let q1 : c ≡ b = cc in
-    let q2 : k ≡ word c s 8 = cc in
-    let q3 : x ≡ word c s 12 = cc in
-    let q4 : y ≡ word c s 16 = cc in
-    record { magic = rw (← q1) e; count = rw (← q1) q2; originals = rw (← q1) q3; translations = rw (← q1) q4 })
-    (λ t. let g : head.Refused Eof ≡ head.Fields b k x y = sym (left _ _ t) ∙ f in absurd (let z : _≡_ {A = ℕ} 0 1 = cc in omega arith))
-words-of s order.Unknown e f = absurd (let z : _≡_ {A = ℕ} 0 1 = cc in omega arith)
-
-pub head-words : (s : List ℕ) {b : Bool} {k x y : ℕ} → headOf s ≡ head.Fields b k x y → Words s b k x y
-unfolding headOf
-head-words s {b} {k} {x} {y} e =
-    by-test (Words s b k x y) (ltb (length s) 28)
-    (λ t. let g : head.Refused Eof ≡ head.Fields b k x y = sym (taken _ _ t) ∙ e in absurd (let z : _≡_ {A = ℕ} 0 1 = cc in omega arith))
-    (λ t. words-of s (orderOf s) refl (sym (left _ _ t) ∙ e))

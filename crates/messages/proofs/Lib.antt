@@ -1,5 +1,4 @@
 pub mod Told
-pub mod Heads
 pub mod Originals
 pub mod Entries
 mod Unique

@@ -2,13 +2,8 @@
 -- as the check reads it from the source. Assumes nothing.
 use mathlib.Core.Path.{sym, _∙_}
 use Rattle.promise.proofs.One.{One}
-use Rattle.messages.proofs.parse_head.Reads as parse-head
-use Rattle.messages.proofs.parse_head.Kinds as parse-head-kinds
 use Rattle.messages.proofs.parse_entry.Reads as parse-entry
 use Rattle.messages.proofs.parse_entry.Kinds as parse-entry-kinds
-
-pub parse-head-one : One 1 parse-head-kinds.ps parse-head-kinds.r parse-head.Post
-parse-head-one κs a u v x y p q = p ∙ sym q
 
 pub parse-entry-one : One 1 parse-entry-kinds.ps parse-entry-kinds.r parse-entry.Post
 parse-entry-one κs a u v x y p q = p ∙ sym q

@@ -1,22 +1,15 @@
--- The head and the entries of a file. Document 01, "Loading, in order", 2 to 5, and "Numbers returned". A stage hands on its value or
--- its refusal.
+-- The entries of a file. Document 01, "Loading, in order", 4 and 5, and "Numbers returned". A stage hands on its value or its refusal.
 use Prim.Native.Nat.{ℕ}
-use mathlib.Core.Bool.{Bool, true, false, _&&_}
+use mathlib.Core.Bool.{Bool, true, false}
 use mathlib.Core.List.{List, [], _∷_}
-use lib.ListN.{length}
-use lib.Dec.{leb, ltb, eqb}
+use lib.Dec.{eqb}
 use Rattle.utf8.specs.Utf8.{utf8}
-use Rattle.text.specs.Bytes.{begins}
 use Rattle.text.specs.Cut.{every}
-use Rattle.layout.specs.Mo.{word, string, original, context, id, ended, segments}
+use Rattle.layout.specs.Mo.{string, original, context, id, ended, segments}
 use Rattle.layout.specs.declared.Stretch.{Stretch}
 use Rattle.layout.specs.declared.Stretch.the-variants as stretch
 use Rattle.messages.specs.declared.Error.{Error}
 use Rattle.messages.specs.declared.Error.the-variants.{Eof, BadMagic, DecodingError, MalformedMetadata, MisplacedMetadata, PluralParsing, UnknownEncoding, RuleTooLong, PoolFull}
-use Rattle.messages.specs.declared.Order.{Order}
-use Rattle.messages.specs.declared.Order.the-variants as order
-use Rattle.messages.specs.declared.Head.{Head}
-use Rattle.messages.specs.declared.Head.the-variants as head
 use Rattle.messages.specs.declared.Original.{Original}
 use Rattle.messages.specs.declared.Original.the-variants as original
 use Rattle.messages.specs.declared.Translation.{Translation}
@@ -35,27 +28,6 @@ numberOf PluralParsing = 6
 numberOf UnknownEncoding = 7
 numberOf RuleTooLong = 8
 numberOf PoolFull = 9
-
--- 2. the magic tells the byte order
-unfoldable pub orderOf : List ℕ → Order
-orderOf s =
-    elim (begins (0xde ∷ 0x12 ∷ 0x04 ∷ 0x95 ∷ []) s) [
-      | true ↦ order.Big false
-      | false ↦ elim (begins (0x95 ∷ 0x04 ∷ 0x12 ∷ 0xde ∷ []) s) [ true ↦ order.Big true | false ↦ order.Unknown ]
-    ]
-
--- 3. the count and the tables
-abbrev pub tables : List ℕ → Order → Head
-tables s (order.Big b) =
-    elim (leb (word b s 12) (length s) && leb (word b s 16) (length s)) [
-      | true ↦ head.Fields b (word b s 8) (word b s 12) (word b s 16)
-      | false ↦ head.Refused Eof
-    ]
-tables s order.Unknown = head.Refused BadMagic
-
-unfoldable pub headOf : List ℕ → Head
-unfolding orderOf
-headOf s = elim (ltb (length s) 28) [ true ↦ head.Refused Eof | false ↦ tables s (orderOf s) ]
 
 -- 4. an original, o being its string with the byte after it
 abbrev pub identified : ℕ → List ℕ → Original

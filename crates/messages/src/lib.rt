@@ -1,11 +1,11 @@
-// The head and the entries of a catalog's file, each tested as it is read. From parser.rs: `get_read_u32_fn`, and the loop's body in
+// The entries of a catalog's file, each tested as it is read, and why a file is refused. From parser.rs: the loop's body in
 // `parse_catalog`. Stages answer enums; a message is not kept, since it lies in the file.
 ghost use mathlib.Core.Path.{_≡_};
 ghost use Prim.Native.Nat.{_+_, _-_, _≤_};
 ghost use lib.ListN.{length, take, drop};
 ghost use Rattle.utf8.specs.Utf8.{utf8};
 ghost use Rattle.layout.specs.Mo.{string};
-ghost use Rattle.messages.specs.Messages.{orderOf, tables, headOf, originalOf, originalIn, translationIn, joined, readAt};
+ghost use Rattle.messages.specs.Messages.{originalOf, originalIn, translationIn, joined, readAt};
 use layout::Stretch;
 
 // Why a file is refused.
@@ -27,18 +27,6 @@ pub enum Outcome {
     Refused(Error),
 }
 
-// The byte order, by the magic.
-enum Order {
-    Big(bool),
-    Unknown,
-}
-
-// Byte order, count and tables.
-pub enum Head {
-    Fields(bool, usize, usize, usize),
-    Refused(Error),
-}
-
 // An original with an id, or with an empty one.
 enum Original {
     Named,
@@ -57,50 +45,6 @@ pub enum Read {
     Message,
     Header(usize, usize),
     Refused(Error),
-}
-
-// The byte order that the magic tells.
-fn get_read_u32(file: &[u8]) -> Order
-    ensures { λ r. ⌜ r ≡ orderOf (now (file .entry)) ⌝ }
-{
-    if compare::starts_with(file, b"\xde\x12\x04\x95") {
-        return Order::Big(false);
-    }
-    if compare::starts_with(file, b"\x95\x04\x12\xde") {
-        return Order::Big(true);
-    }
-    Order::Unknown
-}
-
-// Count and tables; bytes 4 to 8 and those from 20 on, the hash table's, are ignored.
-fn parse_tables(file: &[u8], big: bool) -> Head
-    requires { ⌜ 28 ≤ length (now file) ⌝ }
-    ensures { λ r. ⌜ r ≡ tables (now (file .entry)) (Order.Big big) ⌝ }
-{
-    let count = layout::read_u32(file, 8, big);
-    let originals = layout::read_u32(file, 12, big);
-    let translations = layout::read_u32(file, 16, big);
-    if file.len() < originals {
-        return Head::Refused(Error::Eof);
-    }
-    if file.len() < translations {
-        return Head::Refused(Error::Eof);
-    }
-    Head::Fields(big, count, originals, translations)
-}
-
-// Byte order, count and tables, or why there are none.
-pub fn parse_head(file: &[u8]) -> Head
-    ensures { λ r. ⌜ r ≡ headOf (now (file .entry)) ⌝ }
-{
-    if file.len() < 28 {
-        return Head::Refused(Error::Eof);
-    }
-    let order = get_read_u32(file);
-    let Order::Big(big) = order else {
-        return Head::Refused(Error::BadMagic);
-    };
-    parse_tables(file, big)
 }
 
 // The original of an index with the byte after it: its context and its id.

@@ -28,7 +28,8 @@ use Rattle.plurals.specs.declared.Plural.{Plural}
 use Rattle.plurals.specs.Plurals.{made, tested, parsed, defaultTree, Parses}
 use Rattle.header.specs.Header.{plural}
 use Rattle.layout.specs.Mo.{word, string, contextEnd, idStart, idEnd, context, id, entry, pieceAt, segment}
-use Rattle.messages.specs.Messages.{orderOf, headOf, originalOf, readAt}
+use Rattle.messages.specs.Messages.{originalOf, readAt}
+use Rattle.head.specs.Head.{orderOf, headOf}
 use Rattle.messages.specs.declared.Outcome.the-variants.{Loaded}
 use Rattle.container.specs.Catalog.{header, entryStep, entriesFrom, load}
 use Rattle.container.specs.Promise.{Loads}

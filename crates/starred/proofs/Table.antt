@@ -31,7 +31,8 @@ use Rattle.plurals.specs.Plurals.{Parse, made, tested, parsed, outcomeOf}
 use Rattle.fields.specs.Fields.{named, lastOf}
 use Rattle.header.specs.Header.{charset, plural, metadata, utf8Label}
 use Rattle.layout.specs.Mo.{word, string, contextEnd, idStart, idEnd, context, id, entry, pieceAt, segment}
-use Rattle.messages.specs.Messages.{numberOf, orderOf, headOf, originalOf, readAt}
+use Rattle.messages.specs.Messages.{numberOf, originalOf, readAt}
+use Rattle.head.specs.Head.{orderOf, headOf}
 use Rattle.container.specs.Catalog.{header, entryStep, entriesFrom, Answer, accepted, refused, load}
 use Rattle.container.specs.declared.Options.{Options}
 use Rattle.keys.specs.Keys.{lastIn, lastWith}

@@ -13,7 +13,7 @@ use Rattle.container.proofs.refused.Reads as refused-reads
 use Rattle.choice.proofs.parse_forced.Reads as parse-forced-reads
 use Rattle.choice.proofs.rule_of.Reads as rule-of-reads
 use Rattle.first.proofs.parse_first.Reads as parse-first-reads
-use Rattle.messages.proofs.parse_head.Reads as parse-head-reads
+use Rattle.head.proofs.parse_head.Reads as parse-head-reads
 
 parse-forced-requires : tie.Need-parse-forced-requires
 parse-forced-requires c κs = search needs

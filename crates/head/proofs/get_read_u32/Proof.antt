@@ -1,9 +1,9 @@
-use Rattle.messages.proofs.Heads.{is-little, is-big, is-unknown}
+use Rattle.head.proofs.Heads.{is-little, is-big, is-unknown}
 use borrow.Author.Needs.{needs}
-use Rattle.messages.proofs.get_read_u32.Statement.{statement}
-use Rattle.messages.proofs.get_read_u32.Tie as tie
-use Rattle.messages.proofs.get_read_u32.Reads as reads
-use Rattle.messages.proofs.get_read_u32.Lts as lts
+use Rattle.head.proofs.get_read_u32.Statement.{statement}
+use Rattle.head.proofs.get_read_u32.Tie as tie
+use Rattle.head.proofs.get_read_u32.Reads as reads
+use Rattle.head.proofs.get_read_u32.Lts as lts
 use Rattle.compare.proofs.starts_with.Reads as starts-with-reads
 
 slice-aggregate-starts-with : tie.Need-slice-aggregate-starts-with

@@ -1,11 +1,11 @@
-use Rattle.messages.proofs.Heads.{too-short, no-magic, head-told}
+use Rattle.head.proofs.Heads.{too-short, no-magic, head-told}
 use borrow.Author.Needs.{needs}
-use Rattle.messages.proofs.parse_head.Statement.{statement}
-use Rattle.messages.proofs.parse_head.Tie as tie
-use Rattle.messages.proofs.parse_head.Reads as reads
-use Rattle.messages.proofs.parse_head.Lts as lts
-use Rattle.messages.proofs.get_read_u32.Reads as get-read-u32-reads
-use Rattle.messages.proofs.parse_tables.Reads as parse-tables-reads
+use Rattle.head.proofs.parse_head.Statement.{statement}
+use Rattle.head.proofs.parse_head.Tie as tie
+use Rattle.head.proofs.parse_head.Reads as reads
+use Rattle.head.proofs.parse_head.Lts as lts
+use Rattle.head.proofs.get_read_u32.Reads as get-read-u32-reads
+use Rattle.head.proofs.parse_tables.Reads as parse-tables-reads
 
 returns : tie.Need-returns
 returns c = too-short _ (c .if1 .taken)

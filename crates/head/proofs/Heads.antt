@@ -9,12 +9,12 @@ use borrow.Author.Tests.{le-leb, lt-leb, lt-ltb, le-ltb}
 use Rattle.text.specs.Bytes.{begins}
 use Rattle.text.proofs.Tests.{taken, left, and-none}
 use Rattle.layout.specs.Mo.{word}
-use Rattle.messages.specs.Messages.{orderOf, tables, headOf}
+use Rattle.head.specs.Head.{orderOf, tables, headOf}
 use Rattle.messages.specs.declared.Error.the-variants.{Eof, BadMagic}
-use Rattle.messages.specs.declared.Order.{Order}
-use Rattle.messages.specs.declared.Order.the-variants as order
-use Rattle.messages.specs.declared.Head.{Head}
-use Rattle.messages.specs.declared.Head.the-variants.{Fields, Refused}
+use Rattle.head.specs.declared.Order.{Order}
+use Rattle.head.specs.declared.Order.the-variants as order
+use Rattle.head.specs.declared.Head.{Head}
+use Rattle.head.specs.declared.Head.the-variants.{Fields, Refused}
 
 abbrev pub little : List ℕ
 little = 0xde ∷ 0x12 ∷ 0x04 ∷ 0x95 ∷ []

@@ -1,9 +1,9 @@
-use Rattle.messages.proofs.Heads.{originals-out, translations-out, tables-in}
+use Rattle.head.proofs.Heads.{originals-out, translations-out, tables-in}
 use borrow.Author.Needs.{needs}
-use Rattle.messages.proofs.parse_tables.Statement.{statement}
-use Rattle.messages.proofs.parse_tables.Tie as tie
-use Rattle.messages.proofs.parse_tables.Reads as reads
-use Rattle.messages.proofs.parse_tables.Lts as lts
+use Rattle.head.proofs.parse_tables.Statement.{statement}
+use Rattle.head.proofs.parse_tables.Tie as tie
+use Rattle.head.proofs.parse_tables.Reads as reads
+use Rattle.head.proofs.parse_tables.Lts as lts
 use Rattle.layout.proofs.read_u32.Reads as read-u32-reads
 
 read-u32-requires : tie.Need-read-u32-requires
