@@ -182,11 +182,11 @@ pub fn standard(
 {
     let whole = read_level(s, codes, places, values, FULL, 0, 0);
     let Part::Got(k, q) = whole else {
-        return Nodes::NoReading;
+        return Nodes::NoReading; // no tree
     };
     let x = token_at(s, q);
     let Next::End = x else {
-        return Nodes::NoReading;
+        return Nodes::NoReading; // a token after it
     };
     Nodes::Read(k)
 }
