@@ -26,9 +26,9 @@ use Rattle.container.specs.Catalog as catalog
 use Rattle.container.specs.declared.Options.{Options}
 use Rattle.container.specs.declared.Loaded as below
 use Rattle.container.proofs.Accepted.{every-right}
-use Rattle.gettext_c.specs.Host.{isSet, outcomeNumber, tablesOf, tablesIn, IsEmpty, Loads, answerOf}
-use Rattle.gettext_c.specs.declared.Record.{Record}
-use Rattle.gettext_c.specs.declared.Loaded.{Loaded}
+use Rattle.host.specs.Host.{isSet, outcomeNumber, tablesOf, tablesIn, IsEmpty, Loads, answerOf}
+use Rattle.host.specs.declared.Record.{Record}
+use Rattle.host.specs.declared.Loaded.{Loaded}
 
 -- a number 0 is a load that was not refused
 loaded-0 : (a : Outcome) → outcomeNumber a ≡ 0 → a ≡ outcome.Loaded

@@ -3,7 +3,7 @@
 use mathlib.Core.Path.{sym, ap, _∙_}
 use Rattle.promise.proofs.One.{One}
 use Rattle.container.proofs.Unique.{holds-one, loads-one}
-use Rattle.gettext_c.specs.Host.{recordOf, loadedOf}
+use Rattle.host.specs.Host.{recordOf, loadedOf}
 use Rattle.gettext_c.proofs.gettext_rattle_empty.Reads as empty
 use Rattle.gettext_c.proofs.gettext_rattle_empty.Kinds as empty-kinds
 use Rattle.gettext_c.proofs.gettext_rattle_load.Reads as load

@@ -2,29 +2,10 @@
 // the range of its rule, or the refusal. A library, so that another program can run it on files of its own.
 use container::Options;
 use container::Record;
-use messages::Error;
 use messages::Outcome;
 use plurals::Reading;
 use rules::Rated;
 ghost use mathlib.Core.Path.{_≡_};
-ghost use Rattle.messages.specs.Messages.{numberOf};
-
-// The number of a refusal.
-fn number(e: Error) -> u64
-    ensures { λ r. ⌜ r ≡ numberOf e ⌝ }
-{
-    match e {
-        Error::Eof => 1,
-        Error::BadMagic => 2,
-        Error::DecodingError => 3,
-        Error::MalformedMetadata => 4,
-        Error::MisplacedMetadata => 5,
-        Error::PluralParsing => 6,
-        Error::UnknownEncoding => 7,
-        Error::RuleTooLong => 8,
-        Error::PoolFull => 9,
-    }
-}
 
 fn wide(n: usize) -> u64
     ensures { λ r. ⌜ r ≡ n ⌝ }
@@ -74,7 +55,7 @@ fn show(file: &[u8]) {
         }
         Outcome::Refused(e) => {
             io::write_all(1, b"refused ");
-            io::print_decimal(1, number(e));
+            io::print_decimal(1, host::error_number(e) as u64);
             line_end();
         }
     }

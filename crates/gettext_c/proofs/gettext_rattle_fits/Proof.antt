@@ -1,6 +1,6 @@
 -- What `rules` answers, as numbers. Assumes nothing.
 use mathlib.Core.Path.{ap, _∙_}
-use Rattle.gettext_c.specs.Host.{fitsOf}
+use Rattle.host.specs.Host.{fitsOf}
 use borrow.Author.Needs.{needs}
 use Rattle.gettext_c.proofs.gettext_rattle_fits.Statement.{statement}
 use Rattle.gettext_c.proofs.gettext_rattle_fits.Tie as tie

@@ -1,6 +1,6 @@
 -- What `rules` answers, as numbers. Assumes nothing.
 use mathlib.Core.Path.{ap, _∙_}
-use Rattle.gettext_c.specs.Host.{ratingOf}
+use Rattle.host.specs.Host.{ratingOf}
 use borrow.Author.Needs.{needs}
 use Rattle.gettext_c.proofs.gettext_rattle_rating.Statement.{statement}
 use Rattle.gettext_c.proofs.gettext_rattle_rating.Tie as tie

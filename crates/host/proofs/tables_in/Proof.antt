@@ -1,7 +1,7 @@
 -- Field by field; the number becomes the byte order. Assumes nothing.
 use borrow.Author.Needs.{needs}
-use Rattle.gettext_c.proofs.tables_in.Statement.{statement}
-use Rattle.gettext_c.proofs.tables_in.Tie as tie
+use Rattle.host.proofs.tables_in.Statement.{statement}
+use Rattle.host.proofs.tables_in.Tie as tie
 
 is-set-requires : tie.Need-is-set-requires
 is-set-requires c κs = search needs

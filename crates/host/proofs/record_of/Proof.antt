@@ -1,7 +1,7 @@
 -- Field by field; the byte order becomes a number. Assumes nothing.
 use borrow.Author.Needs.{needs}
-use Rattle.gettext_c.proofs.record_of.Statement.{statement}
-use Rattle.gettext_c.proofs.record_of.Tie as tie
+use Rattle.host.proofs.record_of.Statement.{statement}
+use Rattle.host.proofs.record_of.Tie as tie
 
 order-of-requires : tie.Need-order-of-requires
 order-of-requires c κs = search needs

@@ -25,13 +25,13 @@ use Rattle.lookup.specs.Lookup as lookup
 use Rattle.lookup.specs.declared.Why.the-variants.{ZeroModulus, BadRecord}
 use Rattle.lookup.specs.declared.Answer as answer
 use Rattle.lookup.specs.declared.Answer.the-variants.{Segment, Id, PluralId}
-use Rattle.gettext_c.specs.declared.Tables.{Tables}
-use Rattle.gettext_c.specs.declared.Record.{Record}
-use Rattle.gettext_c.specs.declared.Loaded.{Loaded}
-use Rattle.gettext_c.specs.declared.Answer.{Answer}
-use Rattle.gettext_c.specs.declared.Rating.{Rating}
-use Rattle.gettext_c.specs.declared.Fits.{Fits}
-use Rattle.gettext_c.specs.declared.Form.{Form}
+use Rattle.host.specs.declared.Tables.{Tables}
+use Rattle.host.specs.declared.Record.{Record}
+use Rattle.host.specs.declared.Loaded.{Loaded}
+use Rattle.host.specs.declared.Answer.{Answer}
+use Rattle.host.specs.declared.Rating.{Rating}
+use Rattle.host.specs.declared.Fits.{Fits}
+use Rattle.host.specs.declared.Form.{Form}
 
 -- any number but 0 is yes
 abbrev pub isSet : ℕ → Bool

@@ -1,10 +1,10 @@
 -- The numbers of each case. Assumes nothing.
 use mathlib.Core.Path.{ap, _∙_}
-use Rattle.gettext_c.specs.Host.{answerOf, fallback}
+use Rattle.host.specs.Host.{answerOf, fallback}
 use Rattle.messages.proofs.Told.{told}
 use borrow.Author.Needs.{needs}
-use Rattle.gettext_c.proofs.answer_of.Statement.{statement}
-use Rattle.gettext_c.proofs.answer_of.Tie as tie
+use Rattle.host.proofs.answer_of.Statement.{statement}
+use Rattle.host.proofs.answer_of.Tie as tie
 
 enum-known-answer : tie.Need-enum-known-answer
 enum-known-answer c = search needs

@@ -1,0 +1,276 @@
+// The answers of the layers below as a host in C or Rust takes them: numbers in records with the layout of C. A flag is a number, any but
+// 0 being yes, so that no record and no call that a host can make is senseless.
+use container::Options;
+use lookup::Why;
+use messages::Error;
+use messages::Outcome;
+use plurals::Reading;
+use rules::Fit;
+use rules::Rated;
+use rules::Resolved;
+ghost use mathlib.Core.Path.{_≡_};
+ghost use Rattle.rules.specs.Value.{truth};
+ghost use Rattle.messages.specs.Messages as messages;
+ghost use Rattle.lookup.specs.Lookup as lookup;
+ghost use Rattle.host.specs.Host.{isSet, readingOf, optionsOf, outcomeNumber, recordOf, tablesIn, answerOf, fallback, ratingOf, fitsOf, valueOf};
+
+// The record without its rule: the file's length, how many entries it has, where its tables lie, and whether the highest byte of a
+// word comes first.
+#[repr(C)]
+pub struct Tables {
+    pub length: usize,
+    pub count: usize,
+    pub originals: usize,
+    pub translations: usize,
+    pub big: usize,
+}
+
+// What lookups need beside the file. The rule is nodes: codes, three places of operands each, and the values of integers.
+#[repr(C)]
+pub struct Record {
+    pub tables: Tables,
+    pub nodes: usize,
+    pub root: usize,
+    pub values: [u64; 512],
+    pub places: [u16; 1536],
+    pub codes: [u8; 512],
+}
+
+// Document 01's number, and the record, the empty one where the number is not 0.
+#[repr(C)]
+pub struct Loaded {
+    pub number: u32,
+    pub catalog: Record,
+}
+
+// The text that answers: 0 is the segment of the file at start, 1 the caller's id, 2 the caller's plural id.
+#[repr(C)]
+pub struct Answer {
+    pub number: u32,
+    pub which: u32,
+    pub entry: usize,
+    pub form: u64,
+    pub start: usize,
+    pub len: usize,
+}
+
+// The lowest and the highest form, where the rule is rated.
+#[repr(C)]
+pub struct Rating {
+    pub number: u32,
+    pub rated: u32,
+    pub lowest: u64,
+    pub highest: u64,
+}
+
+// Whether a rule fits.
+#[repr(C)]
+pub struct Fits {
+    pub number: u32,
+    pub fits: u32,
+}
+
+// The form that a rule names for a count.
+#[repr(C)]
+pub struct Form {
+    pub number: u32,
+    pub form: u64,
+}
+
+fn is_set(flag: usize) -> bool
+    ensures { λ r. ⌜ r ≡ isSet flag ⌝ }
+{
+    flag != 0
+}
+
+fn reading_of(standard: u32) -> Reading
+    ensures { λ r. ⌜ r ≡ readingOf standard ⌝ }
+{
+    if standard == 0 {
+        return Reading::Shipped;
+    }
+    Reading::Standard
+}
+
+// How to load, from three flags.
+pub fn options_of(forced: u32, standard: u32, utf8: u32) -> Options
+    ensures { λ r. ⌜ r ≡ optionsOf forced standard utf8 ⌝ }
+{
+    Options {
+        forced: forced != 0,
+        reading: reading_of(standard),
+        utf8: utf8 != 0,
+    }
+}
+
+// The number of a refusal.
+pub fn error_number(e: Error) -> u32
+    ensures { λ r. ⌜ r ≡ messages.numberOf e ⌝ }
+{
+    match e {
+        Error::Eof => 1,
+        Error::BadMagic => 2,
+        Error::DecodingError => 3,
+        Error::MalformedMetadata => 4,
+        Error::MisplacedMetadata => 5,
+        Error::PluralParsing => 6,
+        Error::UnknownEncoding => 7,
+        Error::RuleTooLong => 8,
+        Error::PoolFull => 9,
+    }
+}
+
+// 0, or the number of the refusal.
+pub fn outcome_number(outcome: Outcome) -> u32
+    ensures { λ r. ⌜ r ≡ outcomeNumber outcome ⌝ }
+{
+    match outcome {
+        Outcome::Loaded => 0,
+        Outcome::Refused(e) => error_number(e),
+    }
+}
+
+// Why a lookup falls back: 0 where there is no entry, which is no failure.
+fn why_number(why: Why) -> u32
+    ensures { λ r. ⌜ r ≡ lookup.numberOf why ⌝ }
+{
+    match why {
+        Why::Absent => 0,
+        Why::ZeroModulus => 10,
+        Why::BadRecord => 11,
+    }
+}
+
+fn order_of(big: bool) -> usize
+    ensures { λ r. ⌜ r ≡ truth big ⌝ }
+{
+    if big { 1 } else { 0 }
+}
+
+// The record that a host keeps.
+pub fn record_of(r: container::Record) -> Record
+    ensures { λ q. ⌜ q ≡ recordOf r ⌝ }
+{
+    let values = r.values;
+    let places = r.places;
+    let codes = r.codes;
+    let tables = Tables {
+        length: r.length,
+        count: r.count,
+        originals: r.originals,
+        translations: r.translations,
+        big: order_of(r.big),
+    };
+    Record {
+        tables,
+        nodes: r.nodes,
+        root: r.root,
+        values,
+        places,
+        codes,
+    }
+}
+
+// The tables of a record that a host gives back.
+pub fn tables_in(t: Tables) -> keys::Tables
+    ensures { λ r. ⌜ r ≡ tablesIn t ⌝ }
+{
+    keys::Tables {
+        length: t.length,
+        big: is_set(t.big),
+        count: t.count,
+        originals: t.originals,
+        translations: t.translations,
+    }
+}
+
+fn fallback(number: u32, which: u32) -> Answer
+    ensures { λ r. ⌜ r ≡ fallback number which ⌝ }
+{
+    Answer {
+        number,
+        which,
+        entry: 0,
+        form: 0,
+        start: 0,
+        len: 0,
+    }
+}
+
+// What a lookup found.
+pub fn answer_of(answer: lookup::Answer) -> Answer
+    ensures { λ r. ⌜ r ≡ answerOf answer ⌝ }
+{
+    match answer {
+        lookup::Answer::Segment(entry, form, start, len) => Answer {
+            number: 0,
+            which: 0,
+            entry,
+            form,
+            start,
+            len,
+        },
+        lookup::Answer::Id(why) => fallback(why_number(why), 1),
+        lookup::Answer::PluralId(why) => fallback(why_number(why), 2),
+    }
+}
+
+pub fn rating_of(rated: Rated) -> Rating
+    ensures { λ r. ⌜ r ≡ ratingOf rated ⌝ }
+{
+    match rated {
+        Rated::Range(lowest, highest) => Rating {
+            number: 0,
+            rated: 1,
+            lowest,
+            highest,
+        },
+        Rated::Unrated => Rating {
+            number: 0,
+            rated: 0,
+            lowest: 0,
+            highest: 0,
+        },
+        Rated::NoTree => Rating {
+            number: why_number(Why::BadRecord),
+            rated: 0,
+            lowest: 0,
+            highest: 0,
+        },
+    }
+}
+
+pub fn fits_of(fit: Fit) -> Fits
+    ensures { λ r. ⌜ r ≡ fitsOf fit ⌝ }
+{
+    match fit {
+        Fit::Yes => Fits { number: 0, fits: 1 },
+        Fit::No => Fits { number: 0, fits: 0 },
+        Fit::NoTree => Fits {
+            number: why_number(Why::BadRecord),
+            fits: 0,
+        },
+    }
+}
+
+pub fn form_of(resolved: Resolved) -> Form
+    ensures { λ r. ⌜ r ≡ valueOf resolved ⌝ }
+{
+    match resolved {
+        Resolved::Form(form) => Form { number: 0, form },
+        Resolved::ZeroModulus => Form {
+            number: why_number(Why::ZeroModulus),
+            form: 0,
+        },
+        Resolved::NoTree => Form {
+            number: why_number(Why::BadRecord),
+            form: 0,
+        },
+    }
+}
+
+pub fn flag_of(b: bool) -> u32
+    ensures { λ r. ⌜ r ≡ truth b ⌝ }
+{
+    if b { 1 } else { 0 }
+}
