@@ -26,7 +26,8 @@ use Rattle.container.specs.Catalog as catalog
 use Rattle.container.specs.declared.Options.{Options}
 use Rattle.container.specs.declared.Loaded as below
 use Rattle.container.proofs.Accepted.{every-right}
-use Rattle.host.specs.Host.{isSet, outcomeNumber, tablesOf, tablesIn, IsEmpty, Loads, answerOf}
+use Rattle.numbers.specs.Numbers.{isSet, outcomeNumber}
+use Rattle.host.specs.Host.{tablesOf, tablesIn, IsEmpty, Loads, answerOf}
 use Rattle.host.specs.declared.Record.{Record}
 use Rattle.host.specs.declared.Loaded.{Loaded}
 

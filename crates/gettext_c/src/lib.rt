@@ -16,7 +16,8 @@ ghost use Rattle.rules.specs.Answer.{resolvedOf, ratedOf, fitOf};
 ghost use Rattle.keys.specs.Keys.{keyOf};
 ghost use Rattle.lookup.specs.Lookup.{singular, plural};
 ghost use Rattle.container.specs.Catalog.{load};
-ghost use Rattle.host.specs.Host.{optionsOf, IsEmpty, Loads, tablesIn, answerOf, ratingOf, fitsOf, valueOf};
+ghost use Rattle.numbers.specs.Numbers.{optionsOf};
+ghost use Rattle.host.specs.Host.{IsEmpty, Loads, tablesIn, answerOf, ratingOf, fitsOf, valueOf};
 
 // The empty catalog.
 #[no_mangle]
@@ -37,10 +38,10 @@ pub extern "C" fn gettext_rattle_load<'a>(
 ) -> Loaded
     ensures { λ r. ⌜ Loads (load (optionsOf forced standard utf8) (now (rule .entry)) (now (file .entry))) r ⌝ }
 {
-    let loaded = container::load(file, rule, host::options_of(forced, standard, utf8));
+    let loaded = container::load(file, rule, numbers::options_of(forced, standard, utf8));
     let outcome = loaded.outcome;
     Loaded {
-        number: host::outcome_number(outcome),
+        number: numbers::outcome_number(outcome),
         catalog: host::record_of(loaded.record),
     }
 }
@@ -175,5 +176,5 @@ pub extern "C" fn gettext_rattle_evaluate<'a>(
 pub extern "C" fn gettext_rattle_is_utf8(text: &[u8]) -> u32
     ensures { λ r. ⌜ r ≡ truth (utf8 (now (text .entry))) ⌝ }
 {
-    host::flag_of(utf8::is_utf8(text))
+    numbers::flag_of(utf8::is_utf8(text))
 }

@@ -2,12 +2,6 @@
 -- as the check reads it from the source. Assumes nothing.
 use mathlib.Core.Path.{sym, _∙_}
 use Rattle.promise.proofs.One.{One}
-use Rattle.host.proofs.options_of.Reads as options-of
-use Rattle.host.proofs.options_of.Kinds as options-of-kinds
-use Rattle.host.proofs.error_number.Reads as error-number
-use Rattle.host.proofs.error_number.Kinds as error-number-kinds
-use Rattle.host.proofs.outcome_number.Reads as outcome-number
-use Rattle.host.proofs.outcome_number.Kinds as outcome-number-kinds
 use Rattle.host.proofs.record_of.Reads as record-of
 use Rattle.host.proofs.record_of.Kinds as record-of-kinds
 use Rattle.host.proofs.tables_in.Reads as tables-in
@@ -20,17 +14,6 @@ use Rattle.host.proofs.fits_of.Reads as fits-of
 use Rattle.host.proofs.fits_of.Kinds as fits-of-kinds
 use Rattle.host.proofs.form_of.Reads as form-of
 use Rattle.host.proofs.form_of.Kinds as form-of-kinds
-use Rattle.host.proofs.flag_of.Reads as flag-of
-use Rattle.host.proofs.flag_of.Kinds as flag-of-kinds
-
-pub options-of-one : One 0 options-of-kinds.ps options-of-kinds.r options-of.Post
-options-of-one κs a u v x y p q = p ∙ sym q
-
-pub error-number-one : One 0 error-number-kinds.ps error-number-kinds.r error-number.Post
-error-number-one κs a u v x y p q = p ∙ sym q
-
-pub outcome-number-one : One 0 outcome-number-kinds.ps outcome-number-kinds.r outcome-number.Post
-outcome-number-one κs a u v x y p q = p ∙ sym q
 
 pub record-of-one : One 0 record-of-kinds.ps record-of-kinds.r record-of.Post
 record-of-one κs a u v x y p q = p ∙ sym q
@@ -49,6 +32,3 @@ fits-of-one κs a u v x y p q = p ∙ sym q
 
 pub form-of-one : One 0 form-of-kinds.ps form-of-kinds.r form-of.Post
 form-of-one κs a u v x y p q = p ∙ sym q
-
-pub flag-of-one : One 0 flag-of-kinds.ps flag-of-kinds.r flag-of.Post
-flag-of-one κs a u v x y p q = p ∙ sym q

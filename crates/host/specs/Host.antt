@@ -1,8 +1,6 @@
 -- The answers of the layers below as numbers. Document 01, "Numbers returned" and "The record".
 use Prim.Native.Nat.{ℕ}
 use mathlib.Core.Path.{_≡_}
-use mathlib.Core.Bool.{Bool, true, false, not}
-use lib.Dec.{eqb}
 use Rattle.rules.specs.Value.{truth}
 use Rattle.rules.specs.declared.Resolved.{Resolved}
 use Rattle.rules.specs.declared.Resolved.the-variants as resolved
@@ -10,12 +8,6 @@ use Rattle.rules.specs.declared.Rated.{Rated}
 use Rattle.rules.specs.declared.Rated.the-variants as rated
 use Rattle.rules.specs.declared.Fit.{Fit}
 use Rattle.rules.specs.declared.Fit.the-variants as fit
-use Rattle.plurals.specs.declared.Reading.{Reading}
-use Rattle.plurals.specs.declared.Reading.the-variants.{Shipped, Standard}
-use Rattle.messages.specs.Messages as messages
-use Rattle.messages.specs.declared.Outcome.{Outcome}
-use Rattle.messages.specs.declared.Outcome.the-variants as outcome
-use Rattle.container.specs.declared.Options.{Options}
 use Rattle.container.specs.declared.Record as below-record
 use Rattle.container.specs.declared.Loaded as below-loaded
 use Rattle.container.specs.Catalog as catalog
@@ -25,6 +17,7 @@ use Rattle.lookup.specs.Lookup as lookup
 use Rattle.lookup.specs.declared.Why.the-variants.{ZeroModulus, BadRecord}
 use Rattle.lookup.specs.declared.Answer as answer
 use Rattle.lookup.specs.declared.Answer.the-variants.{Segment, Id, PluralId}
+use Rattle.numbers.specs.Numbers.{isSet, outcomeNumber}
 use Rattle.host.specs.declared.Tables.{Tables}
 use Rattle.host.specs.declared.Record.{Record}
 use Rattle.host.specs.declared.Loaded.{Loaded}
@@ -32,20 +25,6 @@ use Rattle.host.specs.declared.Answer.{Answer}
 use Rattle.host.specs.declared.Rating.{Rating}
 use Rattle.host.specs.declared.Fits.{Fits}
 use Rattle.host.specs.declared.Form.{Form}
-
--- any number but 0 is yes
-abbrev pub isSet : ℕ → Bool
-isSet x = not (eqb x 0)
-
-abbrev pub readingOf : ℕ → Reading
-readingOf x = elim (isSet x) [ true ↦ Standard | false ↦ Shipped ]
-
-abbrev pub optionsOf : ℕ → ℕ → ℕ → Options
-optionsOf forced standard utf8 = record { forced = isSet forced; reading = readingOf standard; utf8 = isSet utf8 }
-
-abbrev pub outcomeNumber : Outcome → ℕ
-outcomeNumber outcome.Loaded = 0
-outcomeNumber (outcome.Refused e) = messages.numberOf e
 
 abbrev pub tablesOf : below-record.Record → Tables
 tablesOf r = record {

@@ -9,7 +9,7 @@ use borrow.Author.Tests.{ltb-true, eqb-true}
 use lib.ListN.{length, getD, take, drop, length-take, length-drop}
 use lib.Dec.{ltb, eqb}
 use Rattle.text.specs.Trim.{trim, trimStart, trimEnd, six}
-use Rattle.trim.proofs.Trimming.{trim-bound}
+use Rattle.trim.proofs.Trimming.{trim-le}
 use Rattle.rules.specs.Tree.{Tree, var, int, nay, bin, cond, Op, Reading, tree, none}
 use Rattle.rules.specs.Store.{size}
 use Rattle.scan.specs.Scan.{indexOf, endFrom, integer}
@@ -54,9 +54,6 @@ three-small (tree s) (tree t) none v w r h = none-small
 three-small (tree s) none z v w r h = none-small
 three-small none y z v w r h = none-small
 
-trim-le : (s : List ℕ) → length (trim six s) ≤ length s
-trim-le s = omega (arith, trim-bound six s)
-
 -- n and integers
 n-small : (s : List ℕ) → Small (readN s) (length s)
 unfolding size
@@ -72,7 +69,7 @@ int-small (b ∷ s) = go (integer (b ∷ s))
   where
     go : (x : Number) → Small (orN x (b ∷ s)) (length (b ∷ s))
     go (Whole v) = tree-small (int v) (omega arith)
-    go NoNumber = wider (trim-le (b ∷ s)) (n-small (trim six (b ∷ s)))
+    go NoNumber = wider (trim-le six (b ∷ s)) (n-small (trim six (b ∷ s)))
 
 -- a pattern has a sign
 Solid : List Row → Type 0
@@ -91,8 +88,8 @@ module _ (p : List ℕ → Reading) (small : (s : List ℕ) → Small (p s) (len
       small-if (found bang s)
       (λ e. small-if (eqb (indexOf bang s) 0)
       (λ d. one-small (p (drop 1 s)) (small (drop 1 s)) (simp length-drop (omega (arith, ltb-true (indexOf bang s) (length s) e))))
-      (λ d. wider (trim-le s) (int-small (trim six s))))
-      (λ e. wider (trim-le s) (int-small (trim six s)))
+      (λ d. wider (trim-le six s) (int-small (trim six s))))
+      (λ e. wider (trim-le six s) (int-small (trim six s)))
 
   choose-small : (i l : ℕ) (s : List ℕ) → Small (choose p i l s) (length s)
   unfolding choose
@@ -115,14 +112,14 @@ module _ (p : List ℕ → Reading) (small : (s : List ℕ) → Small (p s) (len
 
   level-small : (rs : List Row) (s : List ℕ) → Solid rs → Small (level p rs s) (length s)
   unfolding Solid level
-  level-small [] s d = wider (trim-le s) (not-small (trim six s))
+  level-small [] s d = wider (trim-le six s) (not-small (trim six s))
   level-small (r ∷ rs) s d =
       small-if (found (r .pattern) s)
       (λ e. cut-small (r .kind) (indexOf (r .pattern) s) (length (r .pattern)) s (ltb-true (indexOf (r .pattern) s) (length s) e) (d .0))
       (λ e. level-small rs s (d .1))
 
   rest-small : (s : List ℕ) → Small (level p rows (trim six s)) (length s)
-  rest-small s = wider (trim-le s) (level-small rows (trim six s) rows-solid)
+  rest-small s = wider (trim-le six s) (level-small rows (trim six s) rows-solid)
 
   parens-small : (s : List ℕ) → Small (parens p s) (length s)
   unfolding parens
@@ -135,12 +132,12 @@ module _ (p : List ℕ → Reading) (small : (s : List ℕ) → Small (p s) (len
       (λ e. rest-small s)
     where
       inside-le : (s : List ℕ) → length (trim six (inside s)) ≤ length s
-      inside-le s = let k : length (inside s) ≤ length s = simp (length-take, length-drop) (omega arith) in omega (arith, trim-le (inside s))
+      inside-le s = let k : length (inside s) ≤ length s = simp (length-take, length-drop) (omega arith) in omega (arith, trim-le six (inside s))
 
 parse-small : (f : ℕ) (s : List ℕ) → Small (parseIn f s) (length s)
 unfolding parseIn
 parse-small zero s = none-small
-parse-small (suc f) s = wider (trim-le s) (parens-small (parseIn f) (parse-small f) (trim six s))
+parse-small (suc f) s = wider (trim-le six s) (parens-small (parseIn f) (parse-small f) (trim six s))
 
 pub shipped-small : (s : List ℕ) → Small (shipped s) (length s)
 unfolding shipped

@@ -9,14 +9,11 @@ use lib.ListN.{length, getD, take, drop, length-drop}
 use lib.Seq.{drop-cons, drop-length, take-all}
 use lib.Dec.{eqb, ltb}
 use borrow.Author.Tests.{eq-eqb, ne-eqb, eqb-true, ltb-false, lt-ltb, le-ltb, le-leb, lt-leb}
+use Rattle.rules.proofs.Trees.{both-left}
 use Rattle.scan.specs.declared.Number.{Number}
 use Rattle.scan.specs.declared.Number.the-variants.{Whole, NoNumber}
 use Rattle.scan.specs.Scan.{stands, counted, indexFrom, indexOf, deeper, further, endFrom, digit, digitsFrom, digits, integer}
 use Rattle.scan.specs.Promise.{matched, digitOn}
-
-and-left : (a b : Bool) → (a && b) ≡ true → a ≡ true
-and-left true b e = refl
-and-left false b e = e
 
 pub counted-le : (n b ch : ℕ) → counted n b ch ≤ n + 1
 counted-le n b ch = go (eqb ch b)
@@ -48,7 +45,7 @@ turn-ends :
     i + 1 - elim x [ true ↦ n + 1 | false ↦ 0 ] ≡
     elim x [ true ↦ elim (eqb (n + 1) m && eqb o c) [ true ↦ i - n | false ↦ F (n + 1) ] | false ↦ F 0 ]
 turn-ends true n m o c i F p e = rw e (omega arith)
-turn-ends false n m o c i F p e = absurd (omega (arith, eqb-true 0 m (and-left (eqb 0 m) (eqb o c) e)))
+turn-ends false n m o c i F p e = absurd (omega (arith, eqb-true 0 m (both-left (eqb 0 m) (eqb o c) e)))
 
 module _ (pat s : List ℕ) (i n opened closed : ℕ) (was : indexOf pat s ≡ indexFrom pat (drop i s) i n opened closed) where
   -- after a byte: q signs matched, o and c brackets opened and closed
@@ -83,7 +80,7 @@ turn-fits :
     (x : Bool) (n m o c i l : ℕ) (F : ℕ → ℕ) → n ≤ i → ((q : ℕ) → q ≤ i + 1 → F q < i + 1 + l → F q + m ≤ i + 1 + l) →
     elim x [ true ↦ elim (eqb (n + 1) m && eqb o c) [ true ↦ i - n | false ↦ F (n + 1) ] | false ↦ F 0 ] < i + suc l →
     elim x [ true ↦ elim (eqb (n + 1) m && eqb o c) [ true ↦ i - n | false ↦ F (n + 1) ] | false ↦ F 0 ] + m ≤ i + suc l
-turn-fits true n m o c i l F b h = go (eqb (n + 1) m && eqb o c) (λ e. eqb-true (n + 1) m (and-left (eqb (n + 1) m) (eqb o c) e))
+turn-fits true n m o c i l F b h = go (eqb (n + 1) m && eqb o c) (λ e. eqb-true (n + 1) m (both-left (eqb (n + 1) m) (eqb o c) e))
   where
     go :
         (y : Bool) → (y ≡ true → n + 1 ≡ m) → elim y [ true ↦ i - n | false ↦ F (n + 1) ] < i + suc l →

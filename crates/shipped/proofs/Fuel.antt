@@ -10,13 +10,10 @@ use lib.Dec.{ltb, eqb}
 use borrow.Author.Tests.{ltb-true, eqb-true}
 use Rattle.rules.specs.Tree.{Reading}
 use Rattle.text.specs.Trim.{trim, six}
-use Rattle.trim.proofs.Trimming.{trim-bound}
+use Rattle.trim.proofs.Trimming.{trim-le}
 use Rattle.scan.specs.Scan.{indexOf, endFrom}
 use Rattle.scan.specs.Levels.{Kind, binary, ternary, Row, rows, found}
 use Rattle.shipped.specs.Shipped.{two, one, readNot, choose, cut, level, inside, parens, parseIn, shipped, bang, colon}
-
-pub trim-le : (s : List ℕ) → length (trim six s) ≤ length s
-trim-le s = omega (arith, trim-bound six s)
 
 pub inside-length : (s : List ℕ) → length (inside s) ≡ length s - 2
 inside-length s = simp (length-take, length-drop) (omega arith)
@@ -77,7 +74,7 @@ module _ (p q : List ℕ → Reading) where
 
   level-same : (rs : List Row) (s : List ℕ) → Solid rs → Agree (length s) → level p rs s ≡ level q rs s
   unfolding Solid level
-  level-same [] s d a = not-same (trim six s) (fewer (trim-le s) a)
+  level-same [] s d a = not-same (trim six s) (fewer (trim-le six s) a)
   level-same (r ∷ rs) s d a =
       same-if (found (r .pattern) s)
       (λ e. cut-same (r .kind) (indexOf (r .pattern) s) (length (r .pattern)) s (ltb-true (indexOf (r .pattern) s) (length s) e) (d .0) a)
@@ -94,22 +91,22 @@ module _ (p q : List ℕ → Reading) where
       (λ e. rest)
     where
       rest : level p rows (trim six s) ≡ level q rows (trim six s)
-      rest = level-same rows (trim six s) rows-solid (fewer (trim-le s) a)
+      rest = level-same rows (trim six s) rows-solid (fewer (trim-le six s) a)
 
       shorter : (s : List ℕ) → eqb (getD s 0 0) 40 ≡ true → length (trim six (inside s)) < length s
       shorter [] e = absurd (omega (arith, eqb-true 0 40 e))
-      shorter (ch ∷ t) e = omega (arith, trim-le (inside (ch ∷ t)), inside-length (ch ∷ t))
+      shorter (ch ∷ t) e = omega (arith, trim-le six (inside (ch ∷ t)), inside-length (ch ∷ t))
 
 enough : (f g : ℕ) (s : List ℕ) → length s < f → length s < g → parseIn f s ≡ parseIn g s
 unfolding parseIn Agree
 enough zero g s h k = absurd (omega arith)
 enough (suc f) zero s h k = absurd (omega arith)
 enough (suc f) (suc g) s h k =
-    parens-same (parseIn f) (parseIn g) (trim six s) (λ t l. enough f g t (omega (arith, trim-le s)) (omega (arith, trim-le s)))
+    parens-same (parseIn f) (parseIn g) (trim six s) (λ t l. enough f g t (omega (arith, trim-le six s)) (omega (arith, trim-le six s)))
 
 -- `Ast::parse`
 pub parse-is : (s : List ℕ) → shipped s ≡ parens shipped (trim six s)
 unfolding shipped parseIn Agree
 parse-is s =
     parens-same (parseIn (length s)) shipped (trim six s)
-    (λ t l. enough (length s) (suc (length t)) t (omega (arith, trim-le s)) (omega arith))
+    (λ t l. enough (length s) (suc (length t)) t (omega (arith, trim-le six s)) (omega arith))

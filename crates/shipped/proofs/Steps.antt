@@ -20,11 +20,11 @@ use Rattle.shipped.specs.Shipped.{two, three, one, readN, orN, readInt, 
 use Rattle.shipped.specs.Promise.{Gives}
 use Rattle.shipped.proofs.Written.{wider}
 use Rattle.scan.proofs.Scanned.{tail-is}
-use Rattle.shipped.proofs.Fuel.{trim-le}
+use Rattle.trim.proofs.Trimming.{trim-le}
 
 -- a trimmed text, as the code has it, is no longer; its reading is that of the text where a definition says so
 pub trimmed-le : (s t : List ℕ) → t ≡ trim six s → length t ≤ length s
-trimmed-le s t e = omega (arith, ap length e, trim-le s)
+trimmed-le s t e = omega (arith, ap length e, trim-le six s)
 
 pub through :
     (F : List ℕ → Reading) (s t : List ℕ) {o : Reading} {k : ℕ} {P Q : Pool} {r : Nodes} →

@@ -55,7 +55,7 @@ fn show(file: &[u8]) {
         }
         Outcome::Refused(e) => {
             io::write_all(1, b"refused ");
-            io::print_decimal(1, host::error_number(e) as u64);
+            io::print_decimal(1, numbers::error_number(e) as u64);
             line_end();
         }
     }

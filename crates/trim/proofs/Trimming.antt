@@ -99,6 +99,9 @@ module _ (w : ℕ → Bool) (s : List ℕ) where
   pub trim-bound : front w s + length (trim w s) ≤ length s
   trim-bound = rw trim-is (omega (arith, end-length w (drop (front w s) s), length-drop (front w s) s, front-length w s))
 
+  pub trim-le : length (trim w s) ≤ length s
+  trim-le = omega (arith, trim-bound)
+
   module _ (f k : ℕ) (e : f ≡ front w s) where
     pub trim-length : k ≡ length (trimEnd w (take (length s - f) (drop f s))) → k ≡ length (trim w s)
     trim-length h = h ∙ ap (λ (l : List ℕ). length (trimEnd w l)) (part-from s f) ∙ rw e (ap length (sym trim-is))

@@ -1,7 +1,7 @@
 -- Each flag is its own. Assumes nothing.
 use borrow.Author.Needs.{needs}
-use Rattle.host.proofs.options_of.Statement.{statement}
-use Rattle.host.proofs.options_of.Tie as tie
+use Rattle.numbers.proofs.options_of.Statement.{statement}
+use Rattle.numbers.proofs.options_of.Tie as tie
 
 reading-of-requires : tie.Need-reading-of-requires
 reading-of-requires c κs = search needs

@@ -4,8 +4,8 @@ use borrow.Author.Tests.{ne-eqb}
 use Rattle.plurals.specs.declared.Reading.{Reading}
 use Rattle.plurals.specs.declared.Reading.the-variants.{Shipped, Standard}
 use Rattle.messages.proofs.Told.{told}
-use Rattle.host.proofs.reading_of.Statement.{statement}
-use Rattle.host.proofs.reading_of.Tie as tie
+use Rattle.numbers.proofs.reading_of.Statement.{statement}
+use Rattle.numbers.proofs.reading_of.Tie as tie
 
 abbrev at-zero : Bool → Reading
 at-zero b = elim (not b) [ true ↦ Standard | false ↦ Shipped ]
