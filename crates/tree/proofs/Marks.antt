@@ -8,12 +8,12 @@ use Prim.Native.Nat.{ℕ, zero, suc, _+_, _<_, _≤_}
 use native.Mathlib.Omega.{arith}
 use native.Mathlib.Nat.{eq-or-lt-of-le, le-of-suc-le-suc}
 use native.Mathlib.Numerals.{add-one}
-use lib.ListN.{getD, set, replicate, length-set, length-replicate, getD-replicate}
+use lib.ListN.{length, getD, set, replicate, length-set, length-replicate, getD-replicate}
 use lib.Seq.{getD-set-same, getD-set-other}
 use lib.Dec.{ltb, eqb}
 use borrow.Author.Tests.{lt-ltb, le-ltb, le-leb, lt-leb, ltb-true, eqb-true, eqb-false, eq-eqb, ne-eqb}
 use Rattle.rules.specs.Pool.{Pool, pool, code, operand, known, arity, operandsTo, operands, allBelow, used, member, distinct, shaped, isTree}
-use Rattle.tree.specs.Marks.{Marked, Took, Placed, Passes}
+use Rattle.tree.specs.Marks.{Unmarked, Marked, Took, Placed, Passes}
 use Rattle.rules.proofs.Operators.{never}
 use Rattle.rules.proofs.Places.{member-head, member-tail}
 use Rattle.rules.proofs.Trees.{both-left, both-right}
@@ -44,16 +44,15 @@ decide i q = go (eqb i q) refl
     go false e = inr (eqb-false i q e)
 
 -- no place is marked at the start
-pub unmarked : Marked (replicate 512 0) []
+pub cleared : (n : ℕ) → Unmarked (replicate n 0)
+cleared n = record { none = λ q h. getD-replicate {A = ℕ} n q 0 0 (rw (length-replicate {A = ℕ} n 0) at h) }
+
+unmarked : {m : List ℕ} → Unmarked m → Marked m []
 unfolding member distinct
-unmarked = record {
-  long = length-replicate {A = ℕ} 512 0;
-  says = λ q h. rw (getD-replicate {A = ℕ} 512 q 0 0 h);
-  apart = refl;
-}
+unmarked k = record { says = λ q h. rw (k .none q h); apart = refl }
 
 -- an operand that was taken lies below its parent, and is one of the marked now
-module _ {q p : ℕ} {m n xs : List ℕ} {r : Bool} (k : Marked m xs) (few : p ≤ 512) (t : Took q p m n r) where
+module _ {q p : ℕ} {m n xs : List ℕ} {r : Bool} (k : Marked m xs) (few : p ≤ length m) (t : Took q p m n r) where
   taken-fresh : r ≡ true → (q < p) × (member q xs ≡ false)
   taken-fresh e =
       let d : (ltb q p && eqb (getD m q 0) 0) ≡ true = sym (t .answer) ∙ e in
@@ -65,17 +64,20 @@ module _ {q p : ℕ} {m n xs : List ℕ} {r : Bool} (k : Marked m xs) (few : p �
 
   pub taken-marked : r ≡ true → Marked n (q ∷ xs)
   unfolding distinct
-  taken-marked e =
-      let l : q < 512 = omega (arith, taken-fresh e .0) in
-      let w : n ≡ set m q 1 = t .marks e in
-      record {
-        long = rw (w, length-set) (k .long);
-        says = λ i h. rw w (⊎-elim
-            (λ d. rw (d, getD-set-same m q 1 0 (omega (arith, k .long)), member-head q q xs refl))
-            (λ d. rw (getD-set-other m q i 1 0 d, member-tail q i xs d) (k .says i h))
-            (decide i q));
-        apart = rw (taken-fresh e .1) (k .apart);
-      }
+  taken-marked e = record { says = λ i h. rw w (marked-at i (rw (w, length-set) at h) (decide i q)); apart = rw (taken-fresh e .1) (k .apart) }
+    where
+      w : n ≡ set m q 1
+      w = t .marks e
+
+      l : q < length m
+      l = omega (arith, taken-fresh e .0)
+
+      marked-at : (i : ℕ) → i < length m → (i ≡ q) ⊎ (i ≡ q → ⊥) → not (eqb (getD (set m q 1) i 0) 0) ≡ member i (q ∷ xs)
+      marked-at i h (inl d) = rw (d, getD-set-same m q 1 0 l, member-head q q xs refl)
+      marked-at i h (inr d) = rw (getD-set-other m q i 1 0 d, member-tail q i xs d) (k .says i h)
+
+  pub taken-long : r ≡ true → length n ≡ length m
+  taken-long e = rw (t .marks e, length-set)
 
   -- one that was not is not below its parent, or is an operand already
   pub untaken : r ≡ false → (ltb q p && not (member q xs)) ≡ false
@@ -104,23 +106,14 @@ and-split true false a d e = refl
 and-split false k a d e = refl
 
 -- the operands of a node before the j-th were taken
-pub record Taken (P : Pool) (p j : ℕ) (m : List ℕ) : Type 0 where
+pub record Taken (P : Pool) (p j : ℕ) (l m : List ℕ) : Type 0 where
   pub lower : allBelow p (operandsTo P p j) ≡ true
   pub marked : Marked m (operandsTo P p j ++ used P p)
+  pub long : length m ≡ length l
+  pub room : p ≤ length l
 
 module _ (P : Pool) (p : ℕ) where
-  pub none-taken : {m : List ℕ} → Marked m (used P p) → Taken P p 0 m
-  unfolding operandsTo allBelow
-  none-taken k = record { lower = refl; marked = k }
-
-  pub one-more : (j : ℕ) {m n : List ℕ} {r : Bool} → Taken P p j m → p ≤ 512 → Took (operand P p j) p m n r → r ≡ true → Taken P p (j + 1) n
-  unfolding operandsTo allBelow
-  one-more j k few t e = record {
-    lower = rw (add-one, lt-ltb _ _ (taken-below (k .marked) few t e), k .lower);
-    marked = rw add-one (taken-marked (k .marked) few t e);
-  }
-
-  -- one that was not fails the node
+  -- an operand that was not taken fails the node
   operand-fails : (a j : ℕ) → j < a → (ltb (operand P p j) p && not (member (operand P p j) (operandsTo P p j ++ used P p))) ≡ false
       → (allBelow p (operandsTo P p a) && distinct (operandsTo P p a ++ used P p)) ≡ false
   unfolding operandsTo allBelow distinct
@@ -131,42 +124,62 @@ module _ (P : Pool) (p : ℕ) where
       (λ l. and-keep (ltb (operand P p a) p) _ (not (member (operand P p a) (operandsTo P p a ++ used P p))) _ (operand-fails a j l e))
       (eq-or-lt-of-le (le-of-suc-le-suc h))
 
-  -- the answers of the test of one node
-  pub unknown : {n : List ℕ} → 12 < code P p → Placed P p n false
-  unknown h = record { answer = rw (le-ltb (code P p) 13 (omega arith)); marks = λ e. never e }
+module _ (P : Pool) (p : ℕ) {l : List ℕ} where
+  pub none-taken : p ≤ length l → Marked l (used P p) → Taken P p 0 l l
+  unfolding operandsTo allBelow
+  none-taken h k = record { lower = refl; marked = k; long = refl; room = h }
 
-  pub refused : (j : ℕ) {m n : List ℕ} {r : Bool} → code P p ≤ 12 → j < arity (code P p) → Taken P p j m → p ≤ 512 → Took (operand P p j) p m n r
-      → r ≡ false → Placed P p n false
+  pub one-more : (j : ℕ) {m n : List ℕ} {r : Bool} → Taken P p j l m → Took (operand P p j) p m n r → r ≡ true → Taken P p (j + 1) l n
+  unfolding operandsTo allBelow
+  one-more j {m} k t e =
+      let few : p ≤ length m = omega (arith, k .room, k .long) in
+      record {
+        lower = rw (add-one, lt-ltb _ _ (taken-below (k .marked) few t e), k .lower);
+        marked = rw add-one (taken-marked (k .marked) few t e);
+        long = taken-long (k .marked) few t e ∙ k .long;
+        room = k .room;
+      }
+
+  -- the answers of the test of one node
+  pub unknown : {n : List ℕ} → 12 < code P p → Placed P p l n false
+  unknown h = record { answer = rw (le-ltb (code P p) 13 (omega arith)); marks = λ e. never e; long = λ e. never e }
+
+  pub refused : (j : ℕ) {m n : List ℕ} {r : Bool} → code P p ≤ 12 → j < arity (code P p) → Taken P p j l m → Took (operand P p j) p m n r
+      → r ≡ false → Placed P p l n false
   unfolding operands
-  refused j h l k few t e = record {
-    answer = rw (lt-ltb (code P p) 13 (omega arith)) (sym (operand-fails (arity (code P p)) j l (untaken (k .marked) few t e)));
+  refused j h i k t e = record {
+    answer =
+        rw (lt-ltb (code P p) 13 (omega arith)) (sym (operand-fails P p (arity (code P p)) j i
+        (untaken (k .marked) (omega (arith, k .room, k .long)) t e)));
     marks = λ e. never e;
+    long = λ e. never e;
   }
 
-  pub placed : (j : ℕ) {m : List ℕ} → code P p ≤ 12 → j ≡ arity (code P p) → Taken P p j m → Placed P p m true
+  pub placed : (j : ℕ) {m : List ℕ} → code P p ≤ 12 → j ≡ arity (code P p) → Taken P p j l m → Placed P p l m true
   unfolding operands
-  placed j h l k =
-      let k' : Taken P p (arity (code P p)) _ = rw l at k in
+  placed j h i k =
+      let k' : Taken P p (arity (code P p)) _ _ = rw i at k in
       record {
         answer = rw (lt-ltb (code P p) 13 (omega arith), k' .lower, k' .marked .apart);
         marks = λ e. k' .marked;
+        long = λ e. k .long;
       }
 
   -- the node of a leaf, and of a code with one, two and three operands, whose operands were taken
-  pub no-operand : {m : List ℕ} → code P p < 2 → Taken P p 0 m → Placed P p m true
+  pub no-operand : {m : List ℕ} → code P p < 2 → Taken P p 0 l m → Placed P p l m true
   no-operand h k = placed 0 (omega arith) (rw (arity, lt-ltb _ _ h)) k
 
-  pub one-operand : {m : List ℕ} → code P p ≡ 2 → Taken P p 1 m → Placed P p m true
+  pub one-operand : {m : List ℕ} → code P p ≡ 2 → Taken P p 1 l m → Placed P p l m true
   one-operand h k = placed 1 (omega arith) (rw h) k
 
-  pub two-operands : {m : List ℕ} → 3 < code P p → code P p ≤ 12 → Taken P p 2 m → Placed P p m true
-  two-operands h l k =
-      placed 2 l (rw (arity, le-ltb (code P p) 2 (omega arith), ne-eqb (code P p) 2 (omega arith), ne-eqb (code P p) 3 (omega arith))) k
+  pub two-operands : {m : List ℕ} → 3 < code P p → code P p ≤ 12 → Taken P p 2 l m → Placed P p l m true
+  two-operands h i k =
+      placed 2 i (rw (arity, le-ltb (code P p) 2 (omega arith), ne-eqb (code P p) 2 (omega arith), ne-eqb (code P p) 3 (omega arith))) k
 
   -- a third operand is the last, so it decides
-  pub third-decides : (r : Bool) {m n : List ℕ} → code P p ≡ 3 → Taken P p 2 m → p ≤ 512 → Took (operand P p 2) p m n r → Placed P p n r
-  third-decides true h k few t = placed 3 (omega arith) (rw h) (one-more 2 k few t refl)
-  third-decides false h k few t = refused 2 (omega arith) (rw h (omega arith)) k few t refl
+  pub third-decides : (r : Bool) {m n : List ℕ} → code P p ≡ 3 → Taken P p 2 l m → Took (operand P p 2) p m n r → Placed P p l n r
+  third-decides true h k t = placed 3 (omega arith) (rw h) (one-more 2 k t refl)
+  third-decides false h k t = refused 2 (omega arith) (rw h (omega arith)) k t refl
 
 distinct-tail : (ys zs : List ℕ) → distinct zs ≡ false → distinct (ys ++ zs) ≡ false
 unfolding distinct
@@ -179,11 +192,11 @@ pub record Passed (P : Pool) (k : ℕ) (m : List ℕ) : Type 0 where
   pub marked : Marked m (used P k)
 
 module _ (P : Pool) where
-  pub none-passed : Passed P 0 (replicate 512 0)
+  pub none-passed : {m : List ℕ} → Unmarked m → Passed P 0 m
   unfolding shaped used
-  none-passed = record { whole = refl; marked = unmarked }
+  none-passed k = record { whole = refl; marked = unmarked k }
 
-  pub one-passed : (p : ℕ) {m n : List ℕ} {r : Bool} → Passed P p m → Placed P p n r → r ≡ true → Passed P (p + 1) n
+  pub one-passed : (p : ℕ) {m n : List ℕ} {r : Bool} → Passed P p m → Placed P p m n r → r ≡ true → Passed P (p + 1) n
   unfolding shaped used
   one-passed p k t e =
       let d : (known (code P p) && (allBelow p (operands P p) && distinct (operands P p ++ used P p))) ≡ true = sym (t .answer) ∙ e in
@@ -209,7 +222,7 @@ module _ (P : Pool) where
       go false b f = refl
 
   -- the answers of the test of all nodes
-  pub stopped : {n : List ℕ} {r : Bool} (k p : ℕ) → p < k → Placed P p n r → r ≡ false → Passes P k p
+  pub stopped : {m n : List ℕ} {r : Bool} (k p : ℕ) → p < k → Placed P p m n r → r ≡ false → Passes P k p
   stopped k p h t e = record {
     inside = omega arith;
     all = λ d. absurd (omega arith);

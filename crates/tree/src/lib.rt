@@ -5,13 +5,16 @@ use rules::operand;
 ghost use mathlib.Core.Path.{_≡_};
 ghost use mathlib.Core.List.{[]};
 ghost use Prim.Native.Nat.{_+_, _<_, _≤_, _*_};
-ghost use lib.ListN.{getD};
+ghost use lib.ListN.{length, getD};
 ghost use Rattle.rules.specs.Pool.{pool, used, isTree};
-ghost use Rattle.tree.specs.Marks.{Marked, Took, Placed, Passes};
+ghost use Rattle.tree.specs.Marks.{Unmarked, Marked, Took, Placed, Passes};
+
+// Most rules have no more nodes, and so many marks are cleared at once.
+const FEW: usize = 64;
 
 // Whether operand j of the node at p lies below it and is no operand yet; it is marked as one then.
-fn takes<'a>(places: &'a [u16; 1536], marks: &mut [u8; 512], p: usize, j: usize) -> bool
-    requires { ⌜ (p < 512) × (j < 3) ⌝ }
+fn takes<'a>(places: &'a [u16; 1536], marks: &mut [u8], p: usize, j: usize) -> bool
+    requires { ⌜ (p < 512) × (j < 3) × (p ≤ length (now marks)) ⌝ }
     ensures { λ r. ⌜ Took (getD (now (places .entry)) (3 * p + j) 0) p (now (marks .entry)) (now (marks .exit)) r ⌝ }
 {
     let q = operand(places, p, j);
@@ -26,14 +29,9 @@ fn takes<'a>(places: &'a [u16; 1536], marks: &mut [u8; 512], p: usize, j: usize)
 }
 
 // Whether the node at p has a known code and takes all the operands that the code uses.
-fn is_node<'a>(
-    codes: &'a [u8; 512],
-    places: &'a [u16; 1536],
-    marks: &mut [u8; 512],
-    p: usize,
-) -> bool
-    requires { ⌜ (p < 512) × Marked (now marks) (used (pool (now codes) (now places) []) p) ⌝ }
-    ensures { λ r. ⌜ Placed (pool (now (codes .entry)) (now (places .entry)) []) p (now (marks .exit)) r ⌝ }
+fn is_node<'a>(codes: &'a [u8; 512], places: &'a [u16; 1536], marks: &mut [u8], p: usize) -> bool
+    requires { ⌜ (p < 512) × (p ≤ length (now marks)) × Marked (now marks) (used (pool (now codes) (now places) []) p) ⌝ }
+    ensures { λ r. ⌜ Placed (pool (now (codes .entry)) (now (places .entry)) []) p (now (marks .entry)) (now (marks .exit)) r ⌝ }
 {
     let code = codes[p];
     if code < node::NOT {
@@ -58,14 +56,18 @@ fn is_node<'a>(
 }
 
 // The first place whose node fails, or the count. It is a place and no answer so that the loop carries one number only.
-fn passes<'a>(codes: &'a [u8; 512], places: &'a [u16; 1536], count: usize) -> usize
-    requires { ⌜ count ≤ 512 ⌝ }
+fn passes<'a>(
+    codes: &'a [u8; 512],
+    places: &'a [u16; 1536],
+    marks: &mut [u8],
+    count: usize,
+) -> usize
+    requires { ⌜ (count ≤ 512) × (count ≤ length (now marks)) × Unmarked (now marks) ⌝ }
     ensures { λ r. ⌜ Passes (pool (now (codes .entry)) (now (places .entry)) []) count r ⌝ }
 {
-    let mut marks = [0u8; 512];
     let mut p = 0;
     while p < count {
-        if is_node(codes, places, &mut marks, p) {
+        if is_node(codes, places, marks, p) {
             p += 1;
         } else {
             return p;
@@ -84,5 +86,10 @@ pub fn is_tree<'a>(codes: &'a [u8; 512], places: &'a [u16; 1536], count: usize, 
     if count <= root {
         return false;
     }
-    passes(codes, places, count) == count
+    if count <= FEW {
+        let mut marks = [0u8; 64];
+        return passes(codes, places, &mut marks, count) == count;
+    }
+    let mut marks = [0u8; 512];
+    passes(codes, places, &mut marks, count) == count
 }

@@ -1,5 +1,6 @@
 -- `tree::takes` meets its contract: each return is one of the three answers of the test of an operand.
 use native.Mathlib.Omega.{arith}
+use lib.ListN.{length-set}
 use Rattle.tree.proofs.Marks.{took-high, took-marked, took-now}
 use borrow.Author.Needs.{needs}
 use Rattle.tree.proofs.takes.Statement.{statement}
@@ -11,14 +12,17 @@ operand-requires c κs = search needs
 returns : tie.Need-returns
 returns c = took-high _ (c .before .operand .ensures) (omega arith)
 
-element-copy-out-if2 : tie.Need-element-copy-out-if2
-element-copy-out-if2 c = search needs
+slice-read-if2 : tie.Need-slice-read-if2
+slice-read-if2 c = search needs
 
 returns-2 : tie.Need-returns-2
 returns-2 c = took-marked _ (c .before .before .before .operand .ensures) (omega arith) (c .if2 .taken)
 
-element-write-marks : tie.Need-element-write-marks
-element-write-marks c = search needs
+slice-write-marks : tie.Need-slice-write-marks
+slice-write-marks c = search needs
+
+same-length : tie.Need-same-length
+same-length c = search needs
 
 returns-3 : tie.Need-returns-3
 returns-3 c = took-now _ (c .before .before .before .operand .ensures) (omega arith) (c .if2 .left)
@@ -29,7 +33,8 @@ takes-spec =
     (tie.spec
     operand-requires
     returns
-    element-copy-out-if2
+    slice-read-if2
     returns-2
-    element-write-marks
+    slice-write-marks
+    same-length
     returns-3)
