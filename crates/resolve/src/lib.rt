@@ -224,7 +224,12 @@ pub fn resolve<'a>(
 {
     if tree::is_tree(codes, places, count, root) {
         let mut zero = false;
-        let x = eval(codes, places, values, root, n, &mut zero);
+        // as n != 1 is, the rule of most languages
+        let x = if is_low(codes, places, root) {
+            low(codes, places, values, root, n, &mut zero)
+        } else {
+            eval(codes, places, values, root, n, &mut zero)
+        };
         if zero {
             return Resolved::ZeroModulus;
         }
