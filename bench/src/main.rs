@@ -179,7 +179,7 @@ fn crossover() -> BTreeMap<&'static str, usize> {
 
 /// A plural lookup in a catalog that has the header alone: almost all of it is the rule.
 fn evaluation(rows: &mut Vec<Row>) {
-    for (name, rule) in [("Russian", RUSSIAN), ("Arabic", ARABIC)] {
+    for (name, rule) in [("n != 1", "n != 1"), ("Russian", RUSSIAN), ("Arabic", ARABIC)] {
         // the Shipped reading is the crate's; a catalog that is meant to be read right asks for Standard
         let (_, file) = generated(0, rule);
         let ours = gettext_rattle::Catalog::parse(&file).expect("it loads");

@@ -31,7 +31,7 @@ fn get_read_u32(file: &[u8]) -> Order
     Order::Unknown
 }
 
-// Count and tables; bytes 4 to 8 and those from 20 on, the hash table's, are ignored.
+// Count and tables; bytes 4..8, the revision, and 20..28, the hash table's, are ignored.
 fn parse_tables(file: &[u8], big: bool) -> Head
     requires { ⌜ 28 ≤ length (now file) ⌝ }
     ensures { λ r. ⌜ r ≡ tables (now (file .entry)) (Order.Big big) ⌝ }

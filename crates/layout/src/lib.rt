@@ -1,4 +1,4 @@
-// The layout of an MO file: its words, and its cells and strings as places in it. From parser.rs: `get_read_u32_fn`, and how
+// The layout of an MO file: its words, and its cells and strings as places in it. From parser.rs: the readers of a word, and how
 // `parse_catalog` finds a string. Nothing is copied.
 ghost use mathlib.Core.Path.{_≡_};
 ghost use Prim.Native.Nat.{_+_, _*_, _<_, _≤_};
