@@ -125,9 +125,9 @@ module _ (P : Pool) (p : ℕ) where
       (eq-or-lt-of-le (le-of-suc-le-suc h))
 
 module _ (P : Pool) (p : ℕ) {l : List ℕ} where
-  pub none-taken : p ≤ length l → Marked l (used P p) → Taken P p 0 l l
+  pub none-taken : p < length l → Marked l (used P p) → Taken P p 0 l l
   unfolding operandsTo allBelow
-  none-taken h k = record { lower = refl; marked = k; long = refl; room = h }
+  none-taken h k = record { lower = refl; marked = k; long = refl; room = omega arith }
 
   pub one-more : (j : ℕ) {m n : List ℕ} {r : Bool} → Taken P p j l m → Took (operand P p j) p m n r → r ≡ true → Taken P p (j + 1) l n
   unfolding operandsTo allBelow

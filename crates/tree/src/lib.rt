@@ -14,7 +14,7 @@ const FEW: usize = 64;
 
 // Whether operand j of the node at p lies below it and is no operand yet; it is marked as one then.
 fn takes<'a>(places: &'a [u16; 1536], marks: &mut [u8], p: usize, j: usize) -> bool
-    requires { ⌜ (p < 512) × (j < 3) × (p ≤ length (now marks)) ⌝ }
+    requires { ⌜ (p < 512) × (j < 3) × (p < length (now marks)) ⌝ }
     ensures { λ r. ⌜ Took (getD (now (places .entry)) (3 * p + j) 0) p (now (marks .entry)) (now (marks .exit)) r ⌝ }
 {
     let q = operand(places, p, j);
@@ -30,7 +30,7 @@ fn takes<'a>(places: &'a [u16; 1536], marks: &mut [u8], p: usize, j: usize) -> b
 
 // Whether the node at p has a known code and takes all the operands that the code uses.
 fn is_node<'a>(codes: &'a [u8; 512], places: &'a [u16; 1536], marks: &mut [u8], p: usize) -> bool
-    requires { ⌜ (p < 512) × (p ≤ length (now marks)) × Marked (now marks) (used (pool (now codes) (now places) []) p) ⌝ }
+    requires { ⌜ (p < 512) × (p < length (now marks)) × Marked (now marks) (used (pool (now codes) (now places) []) p) ⌝ }
     ensures { λ r. ⌜ Placed (pool (now (codes .entry)) (now (places .entry)) []) p (now (marks .entry)) (now (marks .exit)) r ⌝ }
 {
     let code = codes[p];
