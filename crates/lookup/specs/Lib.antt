@@ -1,2 +1,3 @@
 pub mod Lookup
+pub mod Seek
 pub mod Text

@@ -5,8 +5,9 @@ use layout::Stretch;
 use rules::Resolved;
 ghost use mathlib.Core.Path.{_≡_};
 ghost use Rattle.rules.specs.Pool.{pool};
-ghost use Rattle.keys.specs.Keys.{keyOf};
-ghost use Rattle.lookup.specs.Lookup.{formOr, singular, fallback, plural};
+ghost use Rattle.keys.specs.Keys.{keyOf, lastWith};
+ghost use Rattle.lookup.specs.Lookup.{singular, fallback, plural};
+ghost use Rattle.lookup.specs.Seek.{segmentIn};
 ghost use Rattle.lookup.specs.Text.{IsText};
 
 // Why the caller's own text is the answer.
@@ -23,18 +24,19 @@ pub enum Answer {
     PluralId(Why),
 }
 
-// The segment that a form names, or else the other answer.
-fn form_or(file: &[u8], hit: Hit, form: u64, other: Answer) -> Answer
-    ensures { λ r. ⌜ r ≡ formOr other (now (file .entry)) form hit ⌝ }
+// The segment that a form names in the last entry with the key: the entry, the segment's start and its length.
+fn seek(file: &[u8], t: Tables, given: bool, context: &[u8], id: &[u8], form: u64) -> Hit
+    ensures { λ r. ⌜ r ≡ segmentIn (now (file .entry)) form (lastWith (now (file .entry)) t (keyOf given (now (context .entry)) (now (id .entry)))) ⌝ }
 {
+    let hit = keys::last_hit(file, t, given, context, id);
     let Hit::At(entry, start, len) = hit else {
-        return other;
+        return Hit::Missing;
     };
     let segment = entries::segment_at(file, start, len, form);
     let Stretch::At(at, n) = segment else {
-        return other;
+        return Hit::Missing;
     };
-    Answer::Segment(entry, form, at, n)
+    Hit::At(entry, at, n)
 }
 
 // A lookup without a count: `gettext`, and with a context `pgettext`.
@@ -44,8 +46,11 @@ pub fn find(file: &[u8], t: Tables, given: bool, context: &[u8], id: &[u8]) -> A
     if file.len() != t.length {
         return Answer::Id(Why::BadRecord);
     }
-    let hit = keys::last_hit(file, t, given, context, id);
-    form_or(file, hit, 0, Answer::Id(Why::Absent))
+    let hit = seek(file, t, given, context, id, 0);
+    let Hit::At(entry, start, len) = hit else {
+        return Answer::Id(Why::Absent);
+    };
+    Answer::Segment(entry, 0, start, len)
 }
 
 // The id for one, and the plural id otherwise.
@@ -81,8 +86,11 @@ pub fn nfind<'a, 'b>(
     let resolved = resolve::resolve(codes, places, values, nodes, root, n);
     match resolved {
         Resolved::Form(form) => {
-            let hit = keys::last_hit(file, t, given, context, id);
-            form_or(file, hit, form, fall_back(n, Why::Absent))
+            let hit = seek(file, t, given, context, id, form);
+            let Hit::At(entry, start, len) = hit else {
+                return fall_back(n, Why::Absent);
+            };
+            Answer::Segment(entry, form, start, len)
         }
         Resolved::ZeroModulus => fall_back(n, Why::ZeroModulus),
         Resolved::NoTree => fall_back(n, Why::BadRecord),
