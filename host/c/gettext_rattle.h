@@ -115,7 +115,7 @@ typedef struct gettext_rattle_form {
 } gettext_rattle_form;
 
 GETTEXT_RATTLE_ASSERT(sizeof(size_t) == 8, "the library is built for x86-64");
-GETTEXT_RATTLE_ASSERT(sizeof(gettext_rattle_tables) == 40, "five words");
+GETTEXT_RATTLE_ASSERT(sizeof(gettext_rattle_tables) == 40, "five words, which the library takes as an array of five");
 GETTEXT_RATTLE_ASSERT(offsetof(gettext_rattle_record, values) == 56, "seven words, then the values");
 GETTEXT_RATTLE_ASSERT(offsetof(gettext_rattle_record, places) == 56 + 4096, "512 values of 8 bytes");
 GETTEXT_RATTLE_ASSERT(offsetof(gettext_rattle_record, codes) == 56 + 4096 + 3072, "1536 places of 2 bytes");
@@ -127,21 +127,22 @@ GETTEXT_RATTLE_ASSERT(sizeof(gettext_rattle_answer) == 40, "two half words and f
 gettext_rattle_record gettext_rattle_empty(void);
 
 /* Loads the catalog that lies in the file. A flag is set by any number but 0. forced: the plural rule is rule's text, and the header's is
- * not read; without it rule is not looked at. standard: plural rules are read by GETTEXT_RATTLE_STANDARD, and else by _SHIPPED. utf8: the header's charset label is passed over; the texts must be UTF-8 all the same. */
+ * not read; without it rule is not looked at. standard: plural rules are read by GETTEXT_RATTLE_STANDARD, and else by _SHIPPED.
+ * utf8: the header's charset label is passed over; the texts must be UTF-8 all the same. */
 gettext_rattle_loaded gettext_rattle_load(const uint8_t *file, size_t file_len, const uint8_t *rule, size_t rule_len, uint32_t forced,
                                           uint32_t standard, uint32_t utf8);
 
 /* Which text translates the id, alone or in a context. Without one: the id, with number 0. */
-gettext_rattle_answer gettext_rattle_gettext(const uint8_t *file, size_t file_len, gettext_rattle_tables tables, const uint8_t *id,
-                                             size_t id_len);
-gettext_rattle_answer gettext_rattle_pgettext(const uint8_t *file, size_t file_len, gettext_rattle_tables tables,
+gettext_rattle_answer gettext_rattle_gettext(const uint8_t *file, size_t file_len, const gettext_rattle_tables *tables,
+                                             const uint8_t *id, size_t id_len);
+gettext_rattle_answer gettext_rattle_pgettext(const uint8_t *file, size_t file_len, const gettext_rattle_tables *tables,
                                               const uint8_t *context, size_t context_len, const uint8_t *id, size_t id_len);
 
 /* The same in the form for the count n. Without one: the id if n is 1, the plural id otherwise. */
-gettext_rattle_answer gettext_rattle_ngettext(const uint8_t *file, size_t file_len, gettext_rattle_tables tables,
+gettext_rattle_answer gettext_rattle_ngettext(const uint8_t *file, size_t file_len, const gettext_rattle_tables *tables,
                                               const uint8_t codes[512], const uint16_t places[1536], const uint64_t values[512],
                                               size_t nodes, size_t root, const uint8_t *id, size_t id_len, uint64_t n);
-gettext_rattle_answer gettext_rattle_npgettext(const uint8_t *file, size_t file_len, gettext_rattle_tables tables,
+gettext_rattle_answer gettext_rattle_npgettext(const uint8_t *file, size_t file_len, const gettext_rattle_tables *tables,
                                                const uint8_t codes[512], const uint16_t places[1536], const uint64_t values[512],
                                                size_t nodes, size_t root, const uint8_t *context, size_t context_len,
                                                const uint8_t *id, size_t id_len, uint64_t n);
@@ -199,13 +200,13 @@ static inline uint32_t gr_load(const void *file, size_t file_len, const char *ru
 
 static inline gr_text gr_gettext(const void *file, size_t file_len, const gettext_rattle_record *r, const char *id)
 {
-    return gettext_rattle_text(gettext_rattle_gettext(gr_bytes(file), file_len, r->tables, gr_bytes(id), strlen(id)), file, id, id);
+    return gettext_rattle_text(gettext_rattle_gettext(gr_bytes(file), file_len, &r->tables, gr_bytes(id), strlen(id)), file, id, id);
 }
 
 static inline gr_text gr_pgettext(const void *file, size_t file_len, const gettext_rattle_record *r, const char *context,
                                   const char *id)
 {
-    return gettext_rattle_text(gettext_rattle_pgettext(gr_bytes(file), file_len, r->tables, gr_bytes(context), strlen(context),
+    return gettext_rattle_text(gettext_rattle_pgettext(gr_bytes(file), file_len, &r->tables, gr_bytes(context), strlen(context),
                                                        gr_bytes(id), strlen(id)),
                                file, id, id);
 }
@@ -213,7 +214,7 @@ static inline gr_text gr_pgettext(const void *file, size_t file_len, const gette
 static inline gr_text gr_ngettext(const void *file, size_t file_len, const gettext_rattle_record *r, const char *id,
                                   const char *plural_id, uint64_t n)
 {
-    return gettext_rattle_text(gettext_rattle_ngettext(gr_bytes(file), file_len, r->tables, r->codes, r->places, r->values, r->nodes,
+    return gettext_rattle_text(gettext_rattle_ngettext(gr_bytes(file), file_len, &r->tables, r->codes, r->places, r->values, r->nodes,
                                                        r->root, gr_bytes(id), strlen(id), n),
                                file, id, plural_id);
 }
@@ -221,7 +222,7 @@ static inline gr_text gr_ngettext(const void *file, size_t file_len, const gette
 static inline gr_text gr_npgettext(const void *file, size_t file_len, const gettext_rattle_record *r, const char *context,
                                    const char *id, const char *plural_id, uint64_t n)
 {
-    return gettext_rattle_text(gettext_rattle_npgettext(gr_bytes(file), file_len, r->tables, r->codes, r->places, r->values,
+    return gettext_rattle_text(gettext_rattle_npgettext(gr_bytes(file), file_len, &r->tables, r->codes, r->places, r->values,
                                                         r->nodes, r->root, gr_bytes(context), strlen(context), gr_bytes(id),
                                                         strlen(id), n),
                                file, id, plural_id);

@@ -78,7 +78,7 @@ static void lookups(void)
     CHECK(is(gr_ngettext(g, 50, &r, "z", "zs", 2), 0, "zs"));
     CHECK(is(gr_npgettext(g, 50, &r, "x", "a", "as", 2), 0, "as"));
     gettext_rattle_answer a =
-        gettext_rattle_ngettext(g, 50, r.tables, r.codes, r.places, r.values, r.nodes, r.root, (const uint8_t *)"a", 1, 7);
+        gettext_rattle_ngettext(g, 50, &r.tables, r.codes, r.places, r.values, r.nodes, r.root, (const uint8_t *)"a", 1, 7);
     CHECK(a.number == 0 && a.which == GETTEXT_RATTLE_SEGMENT && a.entry == 0 && a.form == 1 && a.start == 48 && a.len == 1);
     CHECK(gr_load(g, 50, "1%n", GETTEXT_RATTLE_STANDARD, &r) == GETTEXT_RATTLE_OK);
     CHECK(is(gr_ngettext(g, 50, &r, "a", "as", 0), GETTEXT_RATTLE_ZERO_MODULUS, "as"));

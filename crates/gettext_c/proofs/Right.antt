@@ -85,7 +85,7 @@ module _ (s : List ℕ) (t : tables.Tables) (key : List ℕ) where
 module _ (s : List ℕ) (r : Record) (empty : IsEmpty r) (key : List ℕ) where
   none-found : {i form at size : ℕ} → Found s (tablesIn (r .tables)) i form at size → ⊥
   none-found w =
-      let x : r .tables .count ≡ 0 = ap (λ (q : Record). q .tables .count) (empty .is) ∙ empty .empty .count-is in
+      let x : getD (r .tables) 1 0 ≡ 0 = ap (λ (q : Record). getD (q .tables) 1 0) (empty .is) ∙ empty .empty .count-is in
       omega (arith, w .below)
 
   pub empty-absent : answerOf (singular s (tablesIn (r .tables)) key) .which ≡ 0 → ⊥

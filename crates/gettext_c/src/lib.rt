@@ -6,7 +6,6 @@ use host::Form;
 use host::Loaded;
 use host::Rating;
 use host::Record;
-use host::Tables;
 ghost use mathlib.Core.Path.{_≡_};
 ghost use mathlib.Core.Bool.{true};
 ghost use Rattle.utf8.specs.Utf8.{utf8};
@@ -47,8 +46,12 @@ pub extern "C" fn gettext_rattle_load<'a>(
 }
 
 #[no_mangle]
-pub extern "C" fn gettext_rattle_gettext<'a>(file: &'a [u8], tables: Tables, id: &'a [u8]) -> Answer
-    ensures { λ r. ⌜ r ≡ answerOf (singular (now (file .entry)) (tablesIn tables) (now (id .entry))) ⌝ }
+pub extern "C" fn gettext_rattle_gettext<'a>(
+    file: &'a [u8],
+    tables: &'a [usize; 5],
+    id: &'a [u8],
+) -> Answer
+    ensures { λ r. ⌜ r ≡ answerOf (singular (now (file .entry)) (tablesIn (now (tables .entry))) (now (id .entry))) ⌝ }
 {
     host::answer_of(lookup::find(file, host::tables_in(tables), false, id, id))
 }
@@ -56,11 +59,11 @@ pub extern "C" fn gettext_rattle_gettext<'a>(file: &'a [u8], tables: Tables, id:
 #[no_mangle]
 pub extern "C" fn gettext_rattle_pgettext<'a>(
     file: &'a [u8],
-    tables: Tables,
+    tables: &'a [usize; 5],
     context: &'a [u8],
     id: &'a [u8],
 ) -> Answer
-    ensures { λ r. ⌜ r ≡ answerOf (singular (now (file .entry)) (tablesIn tables) (keyOf true (now (context .entry)) (now (id .entry)))) ⌝ }
+    ensures { λ r. ⌜ r ≡ answerOf (singular (now (file .entry)) (tablesIn (now (tables .entry))) (keyOf true (now (context .entry)) (now (id .entry)))) ⌝ }
 {
     host::answer_of(lookup::find(file, host::tables_in(tables), true, context, id))
 }
@@ -68,7 +71,7 @@ pub extern "C" fn gettext_rattle_pgettext<'a>(
 #[no_mangle]
 pub extern "C" fn gettext_rattle_ngettext<'a>(
     file: &'a [u8],
-    tables: Tables,
+    tables: &'a [usize; 5],
     codes: &'a [u8; 512],
     places: &'a [u16; 1536],
     values: &'a [u64; 512],
@@ -77,7 +80,7 @@ pub extern "C" fn gettext_rattle_ngettext<'a>(
     id: &'a [u8],
     n: u64,
 ) -> Answer
-    ensures { λ r. ⌜ r ≡ answerOf (plural (now (file .entry)) (tablesIn tables)
+    ensures { λ r. ⌜ r ≡ answerOf (plural (now (file .entry)) (tablesIn (now (tables .entry)))
         (pool (now (codes .entry)) (now (places .entry)) (now (values .entry))) nodes root (now (id .entry)) n) ⌝ }
 {
     host::answer_of(lookup::nfind(
@@ -98,7 +101,7 @@ pub extern "C" fn gettext_rattle_ngettext<'a>(
 #[no_mangle]
 pub extern "C" fn gettext_rattle_npgettext<'a>(
     file: &'a [u8],
-    tables: Tables,
+    tables: &'a [usize; 5],
     codes: &'a [u8; 512],
     places: &'a [u16; 1536],
     values: &'a [u64; 512],
@@ -108,7 +111,7 @@ pub extern "C" fn gettext_rattle_npgettext<'a>(
     id: &'a [u8],
     n: u64,
 ) -> Answer
-    ensures { λ r. ⌜ r ≡ answerOf (plural (now (file .entry)) (tablesIn tables)
+    ensures { λ r. ⌜ r ≡ answerOf (plural (now (file .entry)) (tablesIn (now (tables .entry)))
         (pool (now (codes .entry)) (now (places .entry)) (now (values .entry))) nodes root
         (keyOf true (now (context .entry)) (now (id .entry))) n) ⌝ }
 {

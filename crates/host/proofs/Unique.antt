@@ -18,7 +18,7 @@ use Rattle.host.proofs.form_of.Kinds as form-of-kinds
 pub record-of-one : One 0 record-of-kinds.ps record-of-kinds.r record-of.Post
 record-of-one κs a u v x y p q = p ∙ sym q
 
-pub tables-in-one : One 0 tables-in-kinds.ps tables-in-kinds.r tables-in.Post
+pub tables-in-one : One 1 tables-in-kinds.ps tables-in-kinds.r tables-in.Post
 tables-in-one κs a u v x y p q = p ∙ sym q
 
 pub answer-of-one : One 0 answer-of-kinds.ps answer-of-kinds.r answer-of.Post

@@ -1,6 +1,8 @@
 -- The answers of the layers below as numbers. Document 01, "Numbers returned" and "The record".
 use Prim.Native.Nat.{ℕ}
 use mathlib.Core.Path.{_≡_}
+use mathlib.Core.List.{List, [], _∷_}
+use lib.ListN.{getD}
 use Rattle.rules.specs.Value.{truth}
 use Rattle.rules.specs.declared.Resolved.{Resolved}
 use Rattle.rules.specs.declared.Resolved.the-variants as resolved
@@ -18,7 +20,6 @@ use Rattle.lookup.specs.declared.Why.the-variants.{ZeroModulus, BadRecord}
 use Rattle.lookup.specs.declared.Answer as answer
 use Rattle.lookup.specs.declared.Answer.the-variants.{Segment, Id, PluralId}
 use Rattle.numbers.specs.Numbers.{isSet, outcomeNumber}
-use Rattle.host.specs.declared.Tables.{Tables}
 use Rattle.host.specs.declared.Record.{Record}
 use Rattle.host.specs.declared.Loaded.{Loaded}
 use Rattle.host.specs.declared.Answer.{Answer}
@@ -26,13 +27,17 @@ use Rattle.host.specs.declared.Rating.{Rating}
 use Rattle.host.specs.declared.Fits.{Fits}
 use Rattle.host.specs.declared.Form.{Form}
 
-abbrev pub tablesOf : below-record.Record → Tables
-tablesOf r = record {
-  length = r .length;
-  count = r .count;
-  originals = r .originals;
-  translations = r .translations;
-  big = truth (r .big);
+-- the record without its rule as five numbers, and back
+abbrev pub tablesOf : below-record.Record → List ℕ
+tablesOf r = r .length ∷ r .count ∷ r .originals ∷ r .translations ∷ truth (r .big) ∷ []
+
+abbrev pub tablesIn : List ℕ → tables.Tables
+tablesIn t = record {
+  length = getD t 0 0;
+  big = isSet (getD t 4 0);
+  count = getD t 1 0;
+  originals = getD t 2 0;
+  translations = getD t 3 0;
 }
 
 abbrev pub recordOf : below-record.Record → Record
@@ -57,15 +62,6 @@ pub record Loads (a : catalog.Answer) (r : Loaded) : Type 0 where
   pub below : below-loaded.Loaded
   pub loads : promise.Loads a below
   pub is : r ≡ loadedOf below
-
-abbrev pub tablesIn : Tables → tables.Tables
-tablesIn t = record {
-  length = t .length;
-  big = isSet (t .big);
-  count = t .count;
-  originals = t .originals;
-  translations = t .translations;
-}
 
 -- 0 is the segment, 1 the id, 2 the plural id
 abbrev pub fallback : ℕ → ℕ → Answer

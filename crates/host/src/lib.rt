@@ -7,21 +7,12 @@ use rules::Resolved;
 ghost use mathlib.Core.Path.{_≡_};
 ghost use Rattle.host.specs.Host.{recordOf, tablesIn, answerOf, fallback, ratingOf, fitsOf, valueOf};
 
-// The record without its rule: the file's length, how many entries it has, where its tables lie, and whether the highest byte of a
-// word comes first.
-#[repr(C)]
-pub struct Tables {
-    pub length: usize,
-    pub count: usize,
-    pub originals: usize,
-    pub translations: usize,
-    pub big: usize,
-}
-
-// What lookups need beside the file. The rule is nodes: codes, three places of operands each, and the values of integers.
+// What lookups need beside the file. The tables are five numbers: the file's length, how many entries it has, where the originals' table
+// and the translations' lie, and whether (not 0) the highest byte of a word comes first. The rule is nodes: codes, three places of
+// operands each, and the values of integers.
 #[repr(C)]
 pub struct Record {
-    pub tables: Tables,
+    pub tables: [usize; 5],
     pub nodes: usize,
     pub root: usize,
     pub values: [u64; 512],
@@ -77,13 +68,8 @@ pub fn record_of(r: container::Record) -> Record
     let values = r.values;
     let places = r.places;
     let codes = r.codes;
-    let tables = Tables {
-        length: r.length,
-        count: r.count,
-        originals: r.originals,
-        translations: r.translations,
-        big: numbers::order_of(r.big),
-    };
+    let big = numbers::order_of(r.big);
+    let tables = [r.length, r.count, r.originals, r.translations, big];
     Record {
         tables,
         nodes: r.nodes,
@@ -94,16 +80,16 @@ pub fn record_of(r: container::Record) -> Record
     }
 }
 
-// The tables of a record that a host gives back.
-pub fn tables_in(t: Tables) -> keys::Tables
-    ensures { λ r. ⌜ r ≡ tablesIn t ⌝ }
+// The tables of a record that a host lends.
+pub fn tables_in<'a>(tables: &'a [usize; 5]) -> keys::Tables
+    ensures { λ r. ⌜ r ≡ tablesIn (now (tables .entry)) ⌝ }
 {
     keys::Tables {
-        length: t.length,
-        big: numbers::is_set(t.big),
-        count: t.count,
-        originals: t.originals,
-        translations: t.translations,
+        length: tables[0],
+        big: numbers::is_set(tables[4]),
+        count: tables[1],
+        originals: tables[2],
+        translations: tables[3],
     }
 }
 

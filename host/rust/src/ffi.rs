@@ -10,7 +10,7 @@ use std::mem::size_of;
 #[cfg(not(all(target_arch = "x86_64", target_pointer_width = "64")))]
 compile_error!("the static library is built for x86-64");
 
-/// The record without its rule.
+/// The record without its rule: five words, which the library takes as an array of five.
 #[repr(C)]
 #[derive(Clone, Copy, Debug, PartialEq)]
 pub struct Tables {
@@ -101,14 +101,14 @@ extern "C" {
     fn gettext_rattle_gettext(
         file: *const u8,
         file_len: usize,
-        tables: Tables,
+        tables: *const Tables,
         id: *const u8,
         id_len: usize,
     ) -> Answer;
     fn gettext_rattle_pgettext(
         file: *const u8,
         file_len: usize,
-        tables: Tables,
+        tables: *const Tables,
         context: *const u8,
         context_len: usize,
         id: *const u8,
@@ -117,7 +117,7 @@ extern "C" {
     fn gettext_rattle_ngettext(
         file: *const u8,
         file_len: usize,
-        tables: Tables,
+        tables: *const Tables,
         codes: *const [u8; 512],
         places: *const [u16; 1536],
         values: *const [u64; 512],
@@ -130,7 +130,7 @@ extern "C" {
     fn gettext_rattle_npgettext(
         file: *const u8,
         file_len: usize,
-        tables: Tables,
+        tables: *const Tables,
         codes: *const [u8; 512],
         places: *const [u16; 1536],
         values: *const [u64; 512],
@@ -192,7 +192,7 @@ pub fn load(file: &[u8], rule: Option<&[u8]>, standard: bool, utf8: bool) -> Loa
 
 pub fn gettext(file: &[u8], r: &Record, id: &[u8]) -> Answer {
     // SAFETY: both slices live for the call and are only read.
-    unsafe { gettext_rattle_gettext(file.as_ptr(), file.len(), r.tables, id.as_ptr(), id.len()) }
+    unsafe { gettext_rattle_gettext(file.as_ptr(), file.len(), &r.tables, id.as_ptr(), id.len()) }
 }
 
 pub fn pgettext(file: &[u8], r: &Record, context: &[u8], id: &[u8]) -> Answer {
@@ -201,7 +201,7 @@ pub fn pgettext(file: &[u8], r: &Record, context: &[u8], id: &[u8]) -> Answer {
         gettext_rattle_pgettext(
             file.as_ptr(),
             file.len(),
-            r.tables,
+            &r.tables,
             context.as_ptr(),
             context.len(),
             id.as_ptr(),
@@ -216,7 +216,7 @@ pub fn ngettext(file: &[u8], r: &Record, id: &[u8], n: u64) -> Answer {
         gettext_rattle_ngettext(
             file.as_ptr(),
             file.len(),
-            r.tables,
+            &r.tables,
             &r.codes,
             &r.places,
             &r.values,
@@ -235,7 +235,7 @@ pub fn npgettext(file: &[u8], r: &Record, context: &[u8], id: &[u8], n: u64) -> 
         gettext_rattle_npgettext(
             file.as_ptr(),
             file.len(),
-            r.tables,
+            &r.tables,
             &r.codes,
             &r.places,
             &r.values,
