@@ -1,4 +1,5 @@
 mod Operators
 mod Near
 mod Values
+mod Short
 pub mod Unique

@@ -10,10 +10,12 @@ use Rattle.rules.specs.declared.Value.{Value}
 use Rattle.rules.specs.declared.Value.the-variants.{Is, ZeroModulus}
 use Rattle.rules.specs.Tree.{Op}
 use Rattle.rules.specs.Value.{truth, binary, negated, chosen, evalTree}
-use Rattle.rules.specs.Pool.{Pool, code, value, operand, treeOf, opOf}
-use Rattle.resolve.specs.Walk.{settled, Gives, leafOf}
+use Rattle.rules.specs.Pool.{Pool, code, value, operand, treeOf, isTree, opOf}
+use Rattle.rules.specs.Answer.{resolvedOf}
+use Rattle.resolve.specs.Walk.{settled, Gives, leafOf, formIf}
 use Rattle.rules.proofs.Operators.{never}
 use Rattle.resolve.proofs.Operators.{settled-any, unsettled}
+use Rattle.rules.proofs.Answers.{resolves}
 use Rattle.rules.proofs.Trees.{Binary, Ternary, tree-var, tree-int, tree-nay, tree-cond, tree-bin}
 
 pub number : {v : Value} {b : Bool} {x r : ℕ} → v ≡ Is x → r ≡ x → Gives v b b r
@@ -28,11 +30,11 @@ stays (Is x) e g = g .given .1 ∙ e
 stays ZeroModulus e g = g .given
 
 -- what a flag that was not set says at the end
-pub fails-as : (v : Value) {c : Bool} {r : ℕ} → Gives v false c r → c ≡ true → v ≡ ZeroModulus
+fails-as : (v : Value) {c : Bool} {r : ℕ} → Gives v false c r → c ≡ true → v ≡ ZeroModulus
 fails-as (Is x) g e = never (sym (g .given .1) ∙ e)
 fails-as ZeroModulus g e = refl
 
-pub is-as : (v : Value) {c : Bool} {r : ℕ} → Gives v false c r → c ≡ false → v ≡ Is r
+is-as : (v : Value) {c : Bool} {r : ℕ} → Gives v false c r → c ≡ false → v ≡ Is r
 is-as (Is x) g e = rw (g .given .0)
 is-as ZeroModulus g e = never (sym e ∙ g .given)
 
@@ -121,3 +123,9 @@ pub at-low : (P : Pool) (p n : ℕ) {j x y : ℕ} {b c d : Bool} {r : ℕ} → B
     → Gives (binary (opOf (code P p)) (Is x) (Is y)) c d r → Gives (evalTree (treeOf P p) n) b d r
 unfolding evalTree
 at-low P p n h m g f e k = rw (tree-bin P p h, leaf-is P (operand P p 1) n m, ← f, ← e) (by-left _ _ _ g k)
+
+-- the answer of a pool by what a walk from its root gave
+pub answered : (P : Pool) (count root n : ℕ) (c : Bool) {r : ℕ} → isTree P count root ≡ true → Gives (evalTree (treeOf P root) n) false c r
+    → formIf r c ≡ resolvedOf P count root n
+answered P count root n true e g = resolves P count root n e refl (fails-as _ g refl)
+answered P count root n false e g = resolves P count root n e refl (is-as _ g refl)

@@ -13,7 +13,7 @@ ghost use Rattle.rules.specs.Value.{truth, compared, binary, evalTree};
 ghost use Rattle.rules.specs.Pool.{pool, opOf, treeOf};
 ghost use Rattle.rules.specs.Sound.{Sound};
 ghost use Rattle.rules.specs.Answer.{resolvedOf};
-ghost use Rattle.resolve.specs.Walk.{settled, cmpOf, Gives, leafOf, Flat, Low};
+ghost use Rattle.resolve.specs.Walk.{settled, cmpOf, Gives, leafOf, Flat, Low, Short, formIf};
 
 fn truth(b: bool) -> u64
     ensures { λ r. ⌜ r ≡ truth b ⌝ }
@@ -211,6 +211,44 @@ fn eval<'a>(
     apply(code, x, y, zero)
 }
 
+// Whether a rule is a binary operator on n and an integer, as n != 1, the rule of most languages. So small a tree is told at once.
+fn is_short<'a>(codes: &'a [u8; 512], places: &'a [u16; 1536], count: usize, root: usize) -> bool
+    ensures { λ r. ⌜ (r ≡ true → Short (pool (now (codes .entry)) (now (places .entry)) []) count root) ⌝ }
+{
+    if count != 3 {
+        return false;
+    }
+    if root != 2 {
+        return false;
+    }
+    if codes[0] != node::N {
+        return false;
+    }
+    if codes[1] != node::INTEGER {
+        return false;
+    }
+    if codes[2] < node::EQUAL {
+        return false;
+    }
+    if node::MODULO < codes[2] {
+        return false;
+    }
+    if operand(places, 2, 0) != 0 {
+        return false;
+    }
+    operand(places, 2, 1) == 1
+}
+
+// The number that a walk brought, unless it met a remainder by zero.
+fn form_of(x: u64, zero: bool) -> Resolved
+    ensures { λ r. ⌜ r ≡ formIf x zero ⌝ }
+{
+    if zero {
+        return Resolved::ZeroModulus;
+    }
+    Resolved::Form(x)
+}
+
 // The value of a rule at a count.
 pub fn resolve<'a>(
     codes: &'a [u8; 512],
@@ -222,18 +260,14 @@ pub fn resolve<'a>(
 ) -> Resolved
     ensures { λ r. ⌜ r ≡ resolvedOf (pool (now (codes .entry)) (now (places .entry)) (now (values .entry))) count root n ⌝ }
 {
-    if tree::is_tree(codes, places, count, root) {
-        let mut zero = false;
-        // as n != 1 is, the rule of most languages
-        let x = if is_low(codes, places, root) {
-            low(codes, places, values, root, n, &mut zero)
-        } else {
-            eval(codes, places, values, root, n, &mut zero)
-        };
-        if zero {
-            return Resolved::ZeroModulus;
-        }
-        return Resolved::Form(x);
+    let mut zero = false;
+    if is_short(codes, places, count, root) {
+        let short = apply(codes[2], n, values[1], &mut zero);
+        return form_of(short, zero);
     }
-    Resolved::NoTree
+    if !tree::is_tree(codes, places, count, root) {
+        return Resolved::NoTree;
+    }
+    let x = eval(codes, places, values, root, n, &mut zero);
+    form_of(x, zero)
 }
