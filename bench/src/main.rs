@@ -37,20 +37,22 @@ fn keep<T>(answer: T) {
     black_box(answer);
 }
 
-/// Best seconds of `repeats` runs.
-fn best(repeats: usize, mut run: impl FnMut()) -> f64 {
-    let mut least = f64::MAX;
+/// Best seconds of `repeats` runs of each, taken in turn, so that a slow moment of the machine strikes them alike.
+fn race<const N: usize>(repeats: usize, mut runs: [&mut dyn FnMut(); N]) -> [f64; N] {
+    let mut least = [f64::MAX; N];
     for _ in 0..repeats {
-        let start = Instant::now();
-        run();
-        least = least.min(start.elapsed().as_secs_f64());
+        for (run, least) in runs.iter_mut().zip(&mut least) {
+            let start = Instant::now();
+            run();
+            *least = least.min(start.elapsed().as_secs_f64());
+        }
     }
     least
 }
 
-/// Best nanoseconds of one of `times` calls.
+/// Best nanoseconds of one of `times` calls. Not in turn with another's: a scan of a large file leaves a cold cache behind.
 fn nanoseconds(times: usize, mut call: impl FnMut(usize)) -> f64 {
-    best(9, || (0..times).for_each(&mut call)) / times as f64 * 1e9
+    race(9, [&mut || (0..times).for_each(&mut call)])[0] / times as f64 * 1e9
 }
 
 fn faster(group: &'static str, case: String, unit: &'static str, ours: f64, other: f64, beside: &'static str) -> Row {
@@ -65,8 +67,14 @@ fn load(rows: &mut Vec<Row>, files: &[Vec<u8>]) {
         .collect();
     let bytes: usize = both.iter().map(|f| f.len()).sum();
     let speed = |seconds: f64| bytes as f64 / seconds / 1e6;
-    let ours = speed(best(7, || both.iter().for_each(|f| keep(gettext_rattle::Catalog::parse(f)))));
-    let other = speed(best(5, || both.iter().for_each(|f| keep(gettext::Catalog::parse(&f[..])))));
+    let [ours, other] = race(
+        7,
+        [
+            &mut || both.iter().for_each(|f| keep(gettext_rattle::Catalog::parse(f))),
+            &mut || both.iter().for_each(|f| keep(gettext::Catalog::parse(&f[..]))),
+        ],
+    )
+    .map(speed);
     let case = format!("{} real catalogs, {:.1} MB", both.len(), bytes as f64 / 1e6);
     rows.push(faster("load", case, "MB/s", ours, other, "crate"));
 }
@@ -185,18 +193,27 @@ fn evaluation(rows: &mut Vec<Row>) {
         let ours = gettext_rattle::Catalog::parse(&file).expect("it loads");
         let standard = gettext_rattle::ParseOptions::new().reading(gettext_rattle::Reading::Standard).parse(&file).expect("it loads");
         let other = gettext::Catalog::parse(&file[..]).expect("it loads");
-        let id = "no such message";
-        let a = nanoseconds(100_000, |k| keep(ours.ngettext(black_box(id), "many", k as u64)));
-        let s = nanoseconds(100_000, |k| keep(standard.ngettext(black_box(id), "many", k as u64)));
-        let b = nanoseconds(100_000, |k| keep(other.ngettext(black_box(id), "many", k as u64)));
-        rows.push(faster("plural rule", format!("{name}, Shipped"), "ns", a, b, "crate"));
         // a record can be altered, so each lookup tests that its nodes are a tree; where the last one has no known code, that is all
         let mut broken = ffi::load(&file, None, false, false).catalog;
         broken.codes[broken.nodes - 1] = 255;
-        let test = nanoseconds(100_000, |k| keep(ffi::evaluate(black_box(&broken), k as u64)));
-        let case = format!("{name}, Shipped, less the test that the record holds a tree ({test:.0} ns), which the crate has not");
-        rows.push(faster("plural rule", case, "ns", a - test, b, "crate"));
-        rows.push(faster("plural rule", format!("{name}, Standard, the crate reading it its own way"), "ns", s, b, "crate"));
+        let id = "no such message";
+        let each = race(
+            200,
+            [
+                &mut || (0..2000).for_each(|n| keep(ours.ngettext(black_box(id), "many", n))),
+                &mut || (0..2000).for_each(|n| keep(standard.ngettext(black_box(id), "many", n))),
+                &mut || (0..2000).for_each(|n| keep(other.ngettext(black_box(id), "many", n))),
+                &mut || (0..2000).for_each(|n| keep(ffi::evaluate(black_box(&broken), n))),
+            ],
+        );
+        let [shipped, standard, theirs, test] = each.map(|seconds| seconds / 2000.0 * 1e9);
+        rows.push(faster("plural rule", format!("{name}, Shipped"), "ns", shipped, theirs, "crate"));
+        // so short a rule as n != 1 is known at sight
+        if name != "n != 1" {
+            let case = format!("{name}, Shipped, less the test that the record holds a tree ({test:.0} ns), which the crate has not");
+            rows.push(faster("plural rule", case, "ns", shipped - test, theirs, "crate"));
+        }
+        rows.push(faster("plural rule", format!("{name}, Standard, the crate reading it its own way"), "ns", standard, theirs, "crate"));
     }
 }
 
@@ -205,8 +222,14 @@ fn utf8(rows: &mut Vec<Row>, files: &[Vec<u8>]) {
         let texts: Vec<&[u8]> = files.iter().flat_map(|f| files::strings(f, ids)).take(400_000).collect();
         let bytes: usize = texts.iter().map(|t| t.len()).sum();
         let speed = |seconds: f64| bytes as f64 / seconds / 1e6;
-        let ours = speed(best(7, || texts.iter().for_each(|t| keep(gettext_rattle::is_utf8(t)))));
-        let std = speed(best(7, || texts.iter().for_each(|t| keep(std::str::from_utf8(t).is_ok()))));
+        let [ours, std] = race(
+            9,
+            [
+                &mut || texts.iter().for_each(|t| keep(gettext_rattle::is_utf8(t))),
+                &mut || texts.iter().for_each(|t| keep(std::str::from_utf8(t).is_ok())),
+            ],
+        )
+        .map(speed);
         rows.push(faster("UTF-8 test", format!("{} {name}, one by one", texts.len()), "MB/s", ours, std, "std"));
     }
 }
