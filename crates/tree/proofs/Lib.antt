@@ -1,2 +1,3 @@
 mod Marks
+mod Groups
 pub mod Unique

@@ -10,8 +10,8 @@ use native.Mathlib.Nat.{eq-or-lt-of-le, le-of-suc-le-suc}
 use native.Mathlib.Numerals.{add-one}
 use lib.ListN.{length, getD, set, replicate, length-set, length-replicate, getD-replicate}
 use lib.Seq.{getD-set-same, getD-set-other}
-use lib.Dec.{ltb, eqb}
-use borrow.Author.Tests.{lt-ltb, le-ltb, le-leb, lt-leb, ltb-true, eqb-true, eqb-false, eq-eqb, ne-eqb}
+use lib.Dec.{leb, ltb, eqb}
+use borrow.Author.Tests.{lt-ltb, le-ltb, le-leb, lt-leb, leb-true, leb-false, ltb-true, eqb-true, eqb-false, eq-eqb, ne-eqb}
 use Rattle.rules.specs.Pool.{Pool, pool, code, operand, known, arity, operandsTo, operands, allBelow, used, member, distinct, shaped, isTree}
 use Rattle.tree.specs.Marks.{Unmarked, Marked, Took, Placed, Passes}
 use Rattle.rules.proofs.Operators.{never}
@@ -206,35 +206,34 @@ module _ (P : Pool) where
         marked = rw add-one (t .marks e);
       }
 
-  -- a node that fails fails the whole
-  node-fails : (k p : ℕ) → p < k → (known (code P p) && (allBelow p (operands P p) && distinct (operands P p ++ used P p))) ≡ false
-      → (shaped P k && distinct (used P k)) ≡ false
+  -- what fails at the places below k fails the whole
+  whole-fails : (k p : ℕ) → k ≤ p → (shaped P k && distinct (used P k)) ≡ false → (shaped P p && distinct (used P p)) ≡ false
   unfolding shaped used
-  node-fails zero p h e = absurd (omega arith)
-  node-fails (suc k) p h e =
+  whole-fails k zero h e = let z : k ≡ 0 = omega arith in rw z at e
+  whole-fails k (suc p) h e =
       ⊎-elim
-      (λ q. and-split (shaped P k) (known (code P k)) (allBelow k (operands P k)) _ (rw q at e))
-      (λ l. go (shaped P k) (known (code P k) && allBelow k (operands P k)) (node-fails k p l e))
-      (eq-or-lt-of-le (le-of-suc-le-suc h))
+      (λ q. rw q at e)
+      (λ l. go (shaped P p) (known (code P p) && allBelow p (operands P p)) (whole-fails k p (le-of-suc-le-suc l) e))
+      (eq-or-lt-of-le h)
     where
-      go : (s b : Bool) → (s && distinct (used P k)) ≡ false → ((s && b) && distinct (operands P k ++ used P k)) ≡ false
-      go true b f = rw (distinct-tail (operands P k) (used P k) f) (and-false b)
+      go : (s b : Bool) → (s && distinct (used P p)) ≡ false → ((s && b) && distinct (operands P p ++ used P p)) ≡ false
+      go true b f = rw (distinct-tail (operands P p) (used P p) f) (and-false b)
       go false b f = refl
 
   -- the answers of the test of all nodes
   pub stopped : {m n : List ℕ} {r : Bool} (k p : ℕ) → p < k → Placed P p m n r → r ≡ false → Passes P k p
+  unfolding shaped used
   stopped k p h t e = record {
-    inside = omega arith;
     all = λ d. absurd (omega arith);
-    fails = λ d. node-fails k p h (sym (t .answer) ∙ e);
+    fails = λ d. whole-fails (suc p) k h (and-split (shaped P p) (known (code P p)) (allBelow p (operands P p)) _ (sym (t .answer) ∙ e));
   }
 
-  pub passed : {m : List ℕ} (k p : ℕ) → p ≡ k → Passed P p m → Passes P k p
-  passed k p e t = record {
-    inside = omega arith;
-    all = λ d. rw (← e, t .whole, t .marked .apart);
-    fails = λ d. absurd (omega arith);
-  }
+  pub passed : {m : List ℕ} (k p : ℕ) → k ≤ p → Passed P p m → Passes P k p
+  passed k p h t = record { all = λ d. go (shaped P k && distinct (used P k)) refl; fails = λ d. absurd (omega arith) }
+    where
+      go : (b : Bool) → (shaped P k && distinct (used P k)) ≡ b → b ≡ true
+      go true f = refl
+      go false f = sym (whole-fails k p h f) ∙ rw (t .whole, t .marked .apart)
 
 -- the answers of the tree test
 module _ (P : Pool) (count root : ℕ) where
@@ -246,10 +245,10 @@ module _ (P : Pool) (count root : ℕ) where
   unfolding isTree
   no-root h l = rw (le-leb count 512 h, le-ltb root count l)
 
-  pub tested : {r : ℕ} → count ≤ 512 → root < count → Passes P count r → eqb r count ≡ isTree P count root
+  pub tested : {r : ℕ} → count ≤ 512 → root < count → Passes P count r → leb count r ≡ isTree P count root
   unfolding isTree
-  tested {r} h l t = rw (le-leb count 512 h, lt-ltb root count l) (go (eqb r count) refl)
+  tested {r} h l t = rw (le-leb count 512 h, lt-ltb root count l) (go (leb count r) refl)
     where
-      go : (b : Bool) → eqb r count ≡ b → b ≡ (shaped P count && distinct (used P count))
-      go true e = sym (t .all (eqb-true r count e))
-      go false e = let d : r ≡ count → ⊥ = eqb-false r count e in sym (t .fails (omega (arith, t .inside)))
+      go : (b : Bool) → leb count r ≡ b → b ≡ (shaped P count && distinct (used P count))
+      go true e = sym (t .all (leb-true count r e))
+      go false e = sym (t .fails (leb-false count r e))
