@@ -4,18 +4,15 @@ use mathlib.Core.Bool.{Bool, true, false}
 use mathlib.Core.List.{[]}
 use Prim.Native.Nat.{ℕ, _<_}
 use native.Mathlib.Omega.{arith}
-use borrow.Author.Tests.{lt-ltb, le-ltb, ne-eqb}
+use borrow.Author.Tests.{lt-ltb}
 use Rattle.rules.specs.declared.Value.the-variants.{Is}
 use Rattle.rules.specs.Tree.{bin, var, int}
 use Rattle.rules.specs.Value.{binary, evalTree}
-use Rattle.rules.specs.Pool.{Pool, pool, code, value, opOf, arity, treeOf, operandsTo, operands, allBelow, used, member, distinct, shaped, isTree}
+use Rattle.rules.specs.Pool.{Pool, pool, code, value, opOf, treeOf, operandsTo, operands, allBelow, used, member, distinct, shaped, isTree}
 use Rattle.rules.specs.Answer.{resolvedOf}
-use Rattle.rules.proofs.Trees.{tree-var, tree-int, tree-bin}
+use Rattle.rules.proofs.Trees.{just-two, tree-var, tree-int, tree-bin}
 use Rattle.resolve.specs.Walk.{Gives, Short, formIf}
 use Rattle.resolve.proofs.Values.{answered}
-
-two-operands : (c : ℕ) → 3 < c → arity c ≡ 2
-two-operands c h = rw (arity, le-ltb c 2 (omega arith), ne-eqb c 2 (omega arith), ne-eqb c 3 (omega arith))
 
 module _ (P : Pool) (count root : ℕ) (s : Short (pool (P .codes) (P .places) []) count root) where
   short-is-tree : isTree P count root ≡ true
@@ -26,7 +23,7 @@ module _ (P : Pool) (count root : ℕ) (s : Short (pool (P .codes) (P .places) [
         s .last,
         s .variable,
         s .integer,
-        two-operands (code P 2) (s .binary),
+        just-two (code P 2) (s .binary),
         s .left,
         s .right,
         lt-ltb (code P 2) 13 (omega (arith, s .known)),

@@ -6,14 +6,14 @@ use mathlib.Core.Bool.{true, false}
 use mathlib.Core.List.{List, [], _∷_, _++_}
 use native.Mathlib.Omega.{arith}
 use native.Mathlib.Nat.{zero-add}
-use borrow.Author.Tests.{lt-ltb, le-ltb, le-leb, ne-eqb}
+use borrow.Author.Tests.{lt-ltb, le-leb}
 use Rattle.rules.specs.Tree.{Tree, var, int, nay, bin, cond, Op}
 use Rattle.rules.specs.Value.{evalTree}
 use Rattle.rules.specs.Range.{rateTree, fitsRange}
 use Rattle.rules.specs.Pool.{Pool, code, arity, operandsTo, operands, allBelow, used, member, distinct, shaped, treeOf, isTree}
 use Rattle.rules.specs.Store.{push, opCode, size, store, blank}
 use Rattle.rules.specs.Answer.{formOf, rangeOf, fitting, resolvedOf, ratedOf, fitOf}
-use Rattle.rules.proofs.Trees.{three-most}
+use Rattle.rules.proofs.Trees.{just-two, three-most}
 use Rattle.rules.proofs.Places.{member-tail}
 use Rattle.rules.proofs.Answers.{resolved-tree, rated-tree, fit-tree}
 use Rattle.rules.proofs.Stored.{code-in, size-pos, Long, less, Same, Node, push-below, pushed, store-long, holds-at, long-blank}
@@ -103,9 +103,7 @@ module _ {X : Pool} {k c x y z v : ℕ} (n : Node X k c x y z v) where
   ops-three e = ops 3 e ∙ rw (n .first-is, n .second-is, n .third-is)
 
 op-arity : (op : Op) → arity (opCode op) ≡ 2
-op-arity op =
-    let h = code-in op in
-    rw (arity, le-ltb (opCode op) 2 (omega arith), ne-eqb (opCode op) 2 (omega arith), ne-eqb (opCode op) 3 (omega arith))
+op-arity op = let h = code-in op in just-two (opCode op) (omega arith)
 
 -- a node more, over operands that are below it and that none uses
 module _ (P Q : Pool) (k n c x y z v : ℕ) where

@@ -111,6 +111,9 @@ two-of c h = rw (arity, le-ltb c 2 (omega arith), ne-eqb c 2 (omega arith)) (go 
     go true = omega arith
     go false = omega arith
 
+pub just-two : (c : ℕ) → 3 < c → arity c ≡ 2
+just-two c h = rw (arity, le-ltb c 2 (omega arith), ne-eqb c 2 (omega arith), ne-eqb c 3 (omega arith))
+
 three-of : (c : ℕ) → c ≡ 3 → 2 < arity c
 three-of c e = rw e (omega arith)
 

@@ -16,7 +16,7 @@ use Rattle.rules.specs.Pool.{Pool, pool, code, operand, known, arity, operandsT
 use Rattle.tree.specs.Marks.{Unmarked, Marked, Took, Placed, Passes}
 use Rattle.rules.proofs.Operators.{never}
 use Rattle.rules.proofs.Places.{member-head, member-tail}
-use Rattle.rules.proofs.Trees.{both-left, both-right}
+use Rattle.rules.proofs.Trees.{both-left, both-right, just-two}
 
 -- the answers of the test of one operand
 module _ {q x p : ℕ} (m : List ℕ) (e : q ≡ x) where
@@ -173,8 +173,7 @@ module _ (P : Pool) (p : ℕ) {l : List ℕ} where
   one-operand h k = placed 1 (omega arith) (rw h) k
 
   pub two-operands : {m : List ℕ} → 3 < code P p → code P p ≤ 12 → Taken P p 2 l m → Placed P p l m true
-  two-operands h i k =
-      placed 2 i (rw (arity, le-ltb (code P p) 2 (omega arith), ne-eqb (code P p) 2 (omega arith), ne-eqb (code P p) 3 (omega arith))) k
+  two-operands h i k = placed 2 i (sym (just-two (code P p) h)) k
 
   -- a third operand is the last, so it decides
   pub third-decides : (r : Bool) {m n : List ℕ} → code P p ≡ 3 → Taken P p 2 l m → Took (operand P p 2) p m n r → Placed P p l n r
