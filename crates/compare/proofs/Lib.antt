@@ -1,3 +1,4 @@
 pub mod Same
 pub mod Sought
 pub mod Unique
+pub mod Cases

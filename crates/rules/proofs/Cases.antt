@@ -1,14 +1,11 @@
 -- Worked rules about the range and the value, of document 01, "Files and rules to try" and "Slips that look right"; all compute.
-use Prim.Native.Nat.{ℕ}
 use mathlib.Core.Path.{_≡_, refl}
 use mathlib.Core.Bool.{true, false}
-use mathlib.Core.List.{List, [], _∷_}
 use Rattle.rules.specs.declared.Value.the-variants.{Is, ZeroModulus}
 use Rattle.rules.specs.declared.Rating.the-variants.{Range, Unrated}
 use Rattle.rules.specs.Tree.{Tree, var, int, nay, bin, cond, cmp, and, or, rem, ne, lt}
 use Rattle.rules.specs.Value.{binary, negated, chosen, evalTree}
 use Rattle.rules.specs.Range.{opRange, binRange, condRange, rateTree, fitsRange}
-use Rattle.rules.specs.Pool.{Pool, pool, operandsTo, operands, allBelow, used, member, distinct, shaped, isTree}
 
 abbrev tens : Tree
 tens = bin rem var (int 10)
@@ -102,50 +99,3 @@ nay-value = refl
 pub arm-value : evalTree (cond (bin (cmp lt) var (int 2)) (int 8) (int 9)) 2 ≡ Is 9
 unfolding evalTree chosen binary
 arm-value = refl
-
--- pools: what makes nodes no tree
-abbrev three : List ℕ → List ℕ → Pool
-three c p = pool c (0 ∷ 0 ∷ 0 ∷ 0 ∷ 0 ∷ 0 ∷ p) []
-
-abbrev over : ℕ → ℕ → ℕ → ℕ → Pool
-over c x y z = three (0 ∷ 0 ∷ c ∷ []) (x ∷ y ∷ z ∷ [])
-
-pub two-operands : isTree (over 4 0 1 9) 3 2 ≡ true
-unfolding isTree shaped used operands operandsTo allBelow distinct member
-two-operands = refl
-
-pub unused-operands : isTree (over 2 1 600 600) 3 2 ≡ true
-unfolding isTree shaped used operands operandsTo allBelow distinct member
-unused-operands = refl
-
-pub a-forest : isTree (over 0 0 0 0) 3 1 ≡ true
-unfolding isTree shaped used operands operandsTo allBelow distinct member
-a-forest = refl
-
-pub too-many : isTree (over 4 0 1 9) 513 2 ≡ false
-unfolding isTree
-too-many = refl
-
-pub root-outside : isTree (over 4 0 1 9) 3 3 ≡ false
-unfolding isTree
-root-outside = refl
-
-pub no-nodes : isTree (over 4 0 1 9) 0 0 ≡ false
-unfolding isTree
-no-nodes = refl
-
-pub unknown-code : isTree (over 13 0 1 9) 3 0 ≡ false
-unfolding isTree shaped used operands operandsTo allBelow distinct member
-unknown-code = refl
-
-pub at-its-parent : isTree (over 2 2 0 0) 3 2 ≡ false
-unfolding isTree shaped used operands operandsTo allBelow distinct member
-at-its-parent = refl
-
-pub twice-of-one : isTree (over 4 1 1 0) 3 2 ≡ false
-unfolding isTree shaped used operands operandsTo allBelow distinct member
-twice-of-one = refl
-
-pub twice-of-two : isTree (pool (0 ∷ 2 ∷ 2 ∷ []) [] []) 3 2 ≡ false
-unfolding isTree shaped used operands operandsTo allBelow distinct member
-twice-of-two = refl

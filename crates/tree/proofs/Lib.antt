@@ -1,3 +1,4 @@
 mod Marks
 mod Groups
 pub mod Unique
+pub mod Cases
