@@ -11,7 +11,8 @@ use Rattle.rules.specs.declared.Value.the-variants.{Is, ZeroModulus}
 use Rattle.rules.specs.Value.{evalTree, binary, negated, chosen, truthV}
 use Rattle.rules.specs.Store.{size}
 use Rattle.grammar.specs.Reading.{standard}
-use Rattle.scan.specs.Scan.{indexFrom, indexOf, endFrom, digitsFrom, integer}
+use Rattle.digits.specs.Digits.{digitsFrom, integer}
+use Rattle.scan.specs.Scan.{indexFrom, indexOf, endFrom}
 use Rattle.shipped.specs.Shipped.{shipped, parseIn, parens, level, choose, readNot}
 use Rattle.plurals.specs.declared.Reading.the-variants.{Shipped, Standard}
 use Rattle.plurals.specs.Plurals.{Parse, rule, pluralParsing, ruleTooLong, poolFull, made, tested, parsed, outcomeOf, numberOf}

@@ -12,10 +12,11 @@ use Rattle.text.specs.Trim.{trim, trimStart, trimEnd, six}
 use Rattle.trim.proofs.Trimming.{trim-le}
 use Rattle.rules.specs.Tree.{Tree, var, int, nay, bin, cond, Op, Reading, tree, none}
 use Rattle.rules.specs.Store.{size}
-use Rattle.scan.specs.Scan.{indexOf, endFrom, integer}
-use Rattle.scan.specs.declared.Number.{Number}
-use Rattle.scan.specs.declared.Number.the-variants.{Whole, NoNumber}
-use Rattle.scan.specs.Levels.{Kind, binary, ternary, Row, rows, found}
+use Rattle.digits.specs.Digits.{integer}
+use Rattle.digits.specs.declared.Number.{Number}
+use Rattle.digits.specs.declared.Number.the-variants.{Whole, NoNumber}
+use Rattle.scan.specs.Scan.{indexOf, endFrom}
+use Rattle.levels.specs.Levels.{Kind, binary, ternary, Row, rows, found}
 use Rattle.shipped.specs.Shipped.{one, two, three, readN, orN, readInt, bang, colon, readNot, choose, cut, level, inside, parens, parseIn, shipped}
 
 -- a tree of at most n nodes, if any

@@ -1,19 +1,17 @@
 -- The scans of specs/Scan.antt go byte by byte, as the loops do: one law for each turn of a loop and one for its end. Assumes nothing.
-use Prim.Native.Nat.{ℕ, suc, _+_, _-_, _*_, _^_, _<_, _≤_}
+use Prim.Native.Nat.{ℕ, suc, _+_, _-_, _<_, _≤_}
 use mathlib.Core.Path.{_≡_, refl, sym, _∙_}
 use mathlib.Core.Bool.{Bool, true, false, _&&_}
 use mathlib.Core.List.{List, [], _∷_}
 use native.Mathlib.Omega.{arith}
-use native.Mathlib.Numerals.{add-one}
-use lib.ListN.{length, getD, take, drop, length-drop}
-use lib.Seq.{drop-cons, drop-length, take-all}
+use lib.ListN.{length, getD, drop}
+use lib.Seq.{drop-length}
 use lib.Dec.{eqb, ltb}
-use borrow.Author.Tests.{eq-eqb, ne-eqb, eqb-true, ltb-false, lt-ltb, le-ltb, le-leb, lt-leb}
+use borrow.Author.Tests.{eqb-true}
+use Rattle.text.proofs.Walk.{rest-at}
 use Rattle.rules.proofs.Trees.{both-left}
-use Rattle.scan.specs.declared.Number.{Number}
-use Rattle.scan.specs.declared.Number.the-variants.{Whole, NoNumber}
-use Rattle.scan.specs.Scan.{stands, counted, indexFrom, indexOf, deeper, further, endFrom, digit, digitsFrom, digits, integer}
-use Rattle.scan.specs.Promise.{matched, digitOn}
+use Rattle.scan.specs.Scan.{stands, counted, indexFrom, indexOf, deeper, further, endFrom}
+use Rattle.scan.specs.Promise.{matched}
 
 pub counted-le : (n b ch : ℕ) → counted n b ch ≤ n + 1
 counted-le n b ch = go (eqb ch b)
@@ -28,9 +26,6 @@ matched-le pat n ch = go (stands pat n ch)
     go : (x : Bool) → elim x [ true ↦ n + 1 | false ↦ 0 ] ≤ n + 1
     go true = omega arith
     go false = omega arith
-
-drop-next : (s : List ℕ) (i : ℕ) → i < length s → drop i s ≡ getD s i 0 ∷ drop (i + 1) s
-drop-next s i h = rw (add-one, drop-cons s i 0 h)
 
 -- one byte of `index_of`, whether it stands in the pattern there or not: no match ends with it, one does
 turn-on :
@@ -54,7 +49,7 @@ module _ (pat s : List ℕ) (i n opened closed : ℕ) (was : indexOf pat s ≡ i
     pub index-on : (eqb q (length pat) && eqb o c) ≡ false → indexOf pat s ≡ indexFrom pat (drop (i + 1) s) (i + 1) q o c
     unfolding indexFrom
     index-on w =
-        was ∙ rw (drop-next s i h, m, u, v)
+        was ∙ rw (rest-at s i h, m, u, v)
         (turn-on (stands pat n (getD s i 0)) n (length pat) (counted opened 40 (getD s i 0)) (counted closed 41 (getD s i 0)) i
         (λ k. indexFrom pat (drop (i + 1) s) (i + 1) k (counted opened 40 (getD s i 0)) (counted closed 41 (getD s i 0)))
         (rw (m, u, v) at w))
@@ -65,7 +60,7 @@ module _ (pat s : List ℕ) (i n opened closed : ℕ) (was : indexOf pat s ≡ i
         rw m
         (turn-ends (stands pat n (getD s i 0)) n (length pat) (counted opened 40 (getD s i 0)) (counted closed 41 (getD s i 0)) i
         (λ k. indexFrom pat (drop (i + 1) s) (i + 1) k (counted opened 40 (getD s i 0)) (counted closed 41 (getD s i 0))) p (rw (m, u, v) at e)
-        ∙ sym (was ∙ rw (drop-next s i h)))
+        ∙ sym (was ∙ rw (rest-at s i h)))
 
   pub index-end : length s ≤ i → i ≤ length s → i ≡ indexOf pat s
   unfolding indexFrom
@@ -124,97 +119,8 @@ pub end-on :
     (s : List ℕ) (r i level index l k : ℕ) → i < length s → r ≡ endFrom (drop i s) level index →
     l ≡ deeper level (getD s i 0) → k ≡ further level index (getD s i 0) → r ≡ endFrom (drop (i + 1) s) l k
 unfolding endFrom
-end-on s r i level index l k h e u v = e ∙ rw (drop-next s i h, u, v)
+end-on s r i level index l k h e u v = e ∙ rw (rest-at s i h, u, v)
 
 pub end-end : (s : List ℕ) (r i level index : ℕ) → length s ≤ i → i ≤ length s → r ≡ endFrom (drop i s) level index → index ≡ r
 unfolding endFrom
 end-end s r i level index h k e = let q : i ≡ length s = omega arith in sym (e ∙ rw (q, drop-length))
-
--- `from_str_radix`: what is too much stays so
-either : (x : Bool) {r : Number} → r ≡ NoNumber → elim x [ true ↦ r | false ↦ NoNumber ] ≡ NoNumber
-either true e = e
-either false e = refl
-
-too-much : (s : List ℕ) (v : ℕ) → 2 ^ 64 ≤ v → digitsFrom s v ≡ NoNumber
-unfolding digitsFrom
-too-much [] v h = rw (le-ltb v (2 ^ 64) h, digitsFrom)
-too-much (ch ∷ s) v h = either (digit ch) (too-much s (10 * v + (ch - 48)) (omega arith))
-
-pub digits-on :
-    (s : List ℕ) (r : Number) (i v w : ℕ) → i < length s → digitOn v (getD s i 0) ≡ Whole w → r ≡ digitsFrom (drop i s) v →
-    r ≡ digitsFrom (drop (i + 1) s) w
-unfolding digitsFrom
-digits-on s r i v w h d e = e ∙ rw (drop-next s i h) (go (digit (getD s i 0)) (ltb (10 * v + (getD s i 0 - 48)) (2 ^ 64)) d)
-  where
-    go :
-        (x y : Bool) →
-        elim x [ true ↦ elim y [ true ↦ Whole (10 * v + (getD s i 0 - 48)) | false ↦ NoNumber ] | false ↦ NoNumber ] ≡ Whole w →
-        elim x [ true ↦ digitsFrom (drop (i + 1) s) (10 * v + (getD s i 0 - 48)) | false ↦ NoNumber ] ≡ digitsFrom (drop (i + 1) s) w
-    go true true q = let z : 10 * v + (getD s i 0 - 48) ≡ w = cc in rw z
-    go true false q = let z : _≡_ {A = ℕ} 0 1 = cc in absurd (omega arith)
-    go false y q = let z : _≡_ {A = ℕ} 0 1 = cc in absurd (omega arith)
-
-pub digits-stop :
-    (s : List ℕ) (r : Number) (i v : ℕ) → i < length s → digitOn v (getD s i 0) ≡ NoNumber → r ≡ digitsFrom (drop i s) v → r ≡ NoNumber
-unfolding digitsFrom
-digits-stop s r i v h d e =
-    e ∙ rw (drop-next s i h) (go (digit (getD s i 0)) (ltb (10 * v + (getD s i 0 - 48)) (2 ^ 64)) (ltb-false _ _) d)
-  where
-    go :
-        (x y : Bool) → (y ≡ false → 2 ^ 64 ≤ 10 * v + (getD s i 0 - 48)) →
-        elim x [ true ↦ elim y [ true ↦ Whole (10 * v + (getD s i 0 - 48)) | false ↦ NoNumber ] | false ↦ NoNumber ] ≡ NoNumber →
-        elim x [ true ↦ digitsFrom (drop (i + 1) s) (10 * v + (getD s i 0 - 48)) | false ↦ NoNumber ] ≡ NoNumber
-    go true true l q = let z : _≡_ {A = ℕ} 0 1 = cc in absurd (omega arith)
-    go true false l q = too-much (drop (i + 1) s) _ (l refl)
-    go false y l q = refl
-
-no-digits : (v : ℕ) → v < 2 ^ 64 → digitsFrom [] v ≡ Whole v
-unfolding digitsFrom
-no-digits v l = rw (lt-ltb v (2 ^ 64) l, digitsFrom)
-
-pub digits-end :
-    (s : List ℕ) (r : Number) (i v : ℕ) → length s ≤ i → i ≤ length s → v < 2 ^ 64 → r ≡ digitsFrom (drop i s) v → Whole v ≡ r
-digits-end s r i v h k l e = let q : i ≡ length s = omega arith in sym (e ∙ rw (q, drop-length) (no-digits v l))
-
-pub digits-none : (s : List ℕ) → length s ≡ 0 → NoNumber ≡ digits s
-digits-none s h = rw (eq-eqb (length s) 0 h, digits)
-
-pub digits-some : (s : List ℕ) → (length s ≡ 0 → ⊥) → digits s ≡ digitsFrom s 0
-digits-some s h = rw (ne-eqb (length s) 0 h, digits)
-
--- one digit
-module _ (v ch : ℕ) where
-  pub digit-low : ch < 48 → NoNumber ≡ digitOn v ch
-  digit-low h = rw (lt-leb 48 ch h, digitOn)
-
-  pub digit-high : 57 < ch → NoNumber ≡ digitOn v ch
-  digit-high h = rw (le-leb 48 ch (omega arith), lt-leb ch 57 h, digitOn)
-
-  pub digit-much : 48 ≤ ch → ch ≤ 57 → 2 ^ 64 ≤ 10 * v + (ch - 48) → NoNumber ≡ digitOn v ch
-  digit-much h k l = rw (le-leb 48 ch h, le-leb ch 57 k, le-ltb (10 * v + (ch - 48)) (2 ^ 64) l, digitOn)
-
-  pub digit-fits : 48 ≤ ch → ch ≤ 57 → 10 * v + (ch - 48) < 2 ^ 64 → Whole (10 * v + (ch - 48)) ≡ digitOn v ch
-  digit-fits h k l = rw (le-leb 48 ch h, le-leb ch 57 k, lt-ltb (10 * v + (ch - 48)) (2 ^ 64) l, digitOn)
-
--- a part from a place on, as the code takes it
-pub tail-is : (a : ℕ) (s : List ℕ) → take (length s - a) (drop a s) ≡ drop a s
-tail-is a s = take-all (length s - a) (drop a s) (simp length-drop (omega arith))
-
--- the plus sign; no byte, no number
-pub integer-none : (s : List ℕ) → length s ≡ 0 → NoNumber ≡ integer s
-unfolding integer
-integer-none [] h = refl
-integer-none (ch ∷ s) h = absurd (omega arith)
-
-pub integer-some : (s : List ℕ) (v : ℕ) → integer s ≡ Whole v → 0 < length s
-unfolding integer
-integer-some [] v e = let z : _≡_ {A = ℕ} 0 1 = cc in absurd (omega arith)
-integer-some (ch ∷ s) v e = omega arith
-
-pub integer-plus : (s : List ℕ) → getD s 0 0 ≡ 43 → digits (take (length s - 1) (drop 1 s)) ≡ integer s
-unfolding integer
-integer-plus s h = rw (tail-is 1 s, eq-eqb (getD s 0 0) 43 h, integer)
-
-pub integer-else : (s : List ℕ) → (getD s 0 0 ≡ 43 → ⊥) → digits s ≡ integer s
-unfolding integer
-integer-else s h = rw (ne-eqb (getD s 0 0) 43 h, integer)

@@ -1,12 +1,10 @@
--- What the Shipped reading looks for in a text of bytes. The Rust's plurals.rs: the folds of `index_of` and `parse_parens`, and
--- `u64::from_str_radix`. Document 01, "Two readings of a rule".
-use Prim.Native.Nat.{ℕ, _+_, _-_, _*_, _^_}
+-- What the Shipped reading looks for in a text of bytes. The Rust's plurals.rs: the folds of `index_of` and `parse_parens`. Document 01,
+-- "Two readings of a rule".
+use Prim.Native.Nat.{ℕ, _+_, _-_}
 use mathlib.Core.Bool.{Bool, true, false, _&&_}
 use mathlib.Core.List.{List, [], _∷_}
-use lib.ListN.{length, getD, drop}
-use lib.Dec.{leb, ltb, eqb}
-use Rattle.scan.specs.declared.Number.{Number}
-use Rattle.scan.specs.declared.Number.the-variants.{Whole, NoNumber}
+use lib.ListN.{length, getD}
+use lib.Dec.{ltb, eqb}
 
 -- `Some(ch) == pat.chars().nth(n)`
 abbrev pub stands : List ℕ → ℕ → ℕ → Bool
@@ -46,17 +44,3 @@ further level index ch = elim (ltb 0 level) [ true ↦ index + 1 | false ↦ cou
 unfoldable pub endFrom : List ℕ → ℕ → ℕ → ℕ
 endFrom [] level index = index
 endFrom (ch ∷ s) level index = endFrom s (deeper level ch) (further level index ch)
-
--- `u64::from_str_radix(src, 10)`: decimal digits after an optional plus sign, at least one; above 2^64-1 is no number
-abbrev pub digit : ℕ → Bool
-digit ch = leb 48 ch && leb ch 57
-
-unfoldable pub digitsFrom : List ℕ → ℕ → Number
-digitsFrom [] v = elim (ltb v (2 ^ 64)) [ true ↦ Whole v | false ↦ NoNumber ]
-digitsFrom (ch ∷ s) v = elim (digit ch) [ true ↦ digitsFrom s (10 * v + (ch - 48)) | false ↦ NoNumber ]
-
-abbrev pub digits : List ℕ → Number
-digits s = elim (eqb (length s) 0) [ true ↦ NoNumber | false ↦ digitsFrom s 0 ]
-
-unfoldable pub integer : List ℕ → Number
-integer s = elim (eqb (getD s 0 0) 43) [ true ↦ digits (drop 1 s) | false ↦ digits s ]

@@ -1,20 +1,12 @@
-// What the Shipped reading looks for in a text: a pattern outside brackets, where a bracket ends, an integer, the first level that cuts.
-// A port of plurals.rs: `index_of`, the fold of `parse_parens`, `u64::from_str_radix`, and the patterns of the levels; the closures are plain
-// loops over bytes.
+// What the Shipped reading looks for in a text: a pattern outside brackets, and where a bracket ends. A port of plurals.rs: `index_of` and
+// the fold of `parse_parens`; the closures are plain loops over bytes.
 ghost use mathlib.Core.Path.{_≡_};
 ghost use mathlib.Core.Bool.{_&&_};
 ghost use Prim.Native.Nat.{_<_, _≤_};
 ghost use lib.Dec.{eqb};
 ghost use lib.ListN.{length, getD};
-ghost use Rattle.scan.specs.Scan.{counted, indexOf, deeper, further, endFrom, digits, integer};
-ghost use Rattle.scan.specs.Levels.{rows, rowAt, rowOf, codeOf};
-ghost use Rattle.scan.specs.Promise.{matched, digitOn};
-
-// What `from_str_radix` makes of a text.
-pub enum Number {
-    Whole(u64),
-    NoNumber,
-}
+ghost use Rattle.scan.specs.Scan.{counted, indexOf, deeper, further, endFrom};
+ghost use Rattle.scan.specs.Promise.{matched};
 
 // One more if the byte is b.
 fn count(n: usize, b: u8, ch: u8) -> usize
@@ -120,111 +112,4 @@ pub fn end_of(s: &[u8]) -> usize
         i += 1;
     }
     index
-}
-
-// A number with one more digit, or none if that is no digit or too much.
-fn digit_on(v: u64, ch: u8) -> Number
-    ensures { λ r. ⌜ r ≡ digitOn v ch ⌝ }
-{
-    if ch < b'0' {
-        return Number::NoNumber;
-    }
-    if b'9' < ch {
-        return Number::NoNumber;
-    }
-    let d = wide(ch - b'0');
-    if 1844674407370955161 < v {
-        return Number::NoNumber;
-    }
-    if 18446744073709551615 - 10 * v < d {
-        return Number::NoNumber;
-    }
-    Number::Whole(10 * v + d)
-}
-
-fn wide(x: u8) -> u64
-    ensures { λ r. ⌜ r ≡ x ⌝ }
-{
-    x as u64
-}
-
-// A number of digits, at least one.
-fn digits_of(s: &[u8]) -> Number
-    ensures { λ r. ⌜ r ≡ digits (now (s .entry)) ⌝ }
-{
-    if s.len() == 0 {
-        return Number::NoNumber;
-    }
-    let mut i = 0;
-    let mut v = 0;
-    while i < s.len() {
-        let next = digit_on(v, s[i]);
-        let Number::Whole(w) = next else {
-            return Number::NoNumber;
-        };
-        v = w;
-        i += 1;
-    }
-    Number::Whole(v)
-}
-
-// `u64::from_str_radix(s, 10)`.
-pub fn integer_of(s: &[u8]) -> Number
-    ensures { λ r. ⌜ r ≡ integer (now (s .entry)) ⌝ }
-{
-    if s.len() == 0 {
-        return Number::NoNumber;
-    }
-    if s[0] == b'+' {
-        return digits_of(&s[1..]);
-    }
-    digits_of(s)
-}
-
-// The levels in their order: two signs for each, how many of them count, and the code of the node.
-const SIGNS: [u8; 20] = *b"&&||?\0>=>\0<=<\0==!=%\0";
-
-const WIDTHS: [usize; 10] = [2, 2, 1, 2, 1, 2, 1, 2, 2, 1];
-
-const CODES: [u8; 10] = [10, 11, 3, 6, 8, 7, 9, 4, 5, 12];
-
-// How many signs the pattern of a row has.
-pub fn width_of(row: usize) -> usize
-    requires { ⌜ row < 10 ⌝ }
-    ensures { λ r. ⌜ r ≡ length (rowAt row .pattern) ⌝ }
-{
-    WIDTHS[row]
-}
-
-// The code of the node that a row makes.
-pub fn code_of(row: usize) -> u8
-    requires { ⌜ row < 10 ⌝ }
-    ensures { λ r. ⌜ r ≡ codeOf (rowAt row .kind) ⌝ }
-{
-    CODES[row]
-}
-
-// Where a row's pattern stands, or the text's length.
-pub fn place_of(s: &[u8], row: usize) -> usize
-    requires { ⌜ row < 10 ⌝ }
-    ensures { λ r. ⌜ r ≡ indexOf (rowAt row .pattern) (now (s .entry)) ⌝ }
-{
-    let signs = SIGNS;
-    let start = 2 * row;
-    let end = start + width_of(row);
-    index_of(s, &signs[start..end])
-}
-
-// The first row whose pattern stands in the text, or the number of rows.
-pub fn row_of(s: &[u8]) -> usize
-    ensures { λ r. ⌜ r ≡ rowOf rows (now (s .entry)) ⌝ }
-{
-    let mut row = 0;
-    while row < 10 {
-        if place_of(s, row) < s.len() {
-            return row;
-        }
-        row += 1;
-    }
-    row
 }

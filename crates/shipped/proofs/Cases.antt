@@ -8,7 +8,8 @@ use Rattle.rules.specs.declared.Value.the-variants.{Is}
 use Rattle.rules.specs.Tree.{Tree, var, int, nay, bin, cond, cmp, or, rem, eq, gt, Reading, tree, none}
 use Rattle.rules.specs.Value.{truthV, binary, evalTree}
 use Rattle.text.specs.Trim.{trim, trimStart, trimEnd}
-use Rattle.scan.specs.Scan.{indexFrom, indexOf, endFrom, digitsFrom, integer}
+use Rattle.digits.specs.Digits.{digitsFrom, integer}
+use Rattle.scan.specs.Scan.{indexFrom, indexOf, endFrom}
 use Rattle.shipped.specs.Shipped.{shipped, parseIn, parens, level, choose, readNot}
 
 -- what a rule comes to at a count

@@ -13,13 +13,14 @@ use Rattle.rules.specs.Pool.{Pool}
 use Rattle.rules.specs.Store.{opCode}
 use Rattle.rules.specs.declared.Nodes.{Nodes}
 use Rattle.text.specs.Trim.{trim, six}
-use Rattle.scan.specs.declared.Number.{Number}
-use Rattle.scan.specs.Scan.{indexOf, integer, endFrom}
-use Rattle.scan.specs.Levels.{Kind, binary, ternary, Row, rows, found, codeOf}
+use Rattle.digits.specs.declared.Number.{Number}
+use Rattle.digits.specs.Digits.{integer}
+use Rattle.scan.specs.Scan.{indexOf, endFrom}
+use Rattle.levels.specs.Levels.{Kind, binary, ternary, Row, rows, found, codeOf}
 use Rattle.shipped.specs.Shipped.{two, three, one, readN, orN, readInt, readNot, choose, cut, cutAt, level, inside, parens, shipped, bang, colon}
 use Rattle.shipped.specs.Promise.{Gives}
 use Rattle.shipped.proofs.Written.{wider}
-use Rattle.scan.proofs.Scanned.{tail-is}
+use Rattle.text.proofs.Walk.{part-from}
 use Rattle.trim.proofs.Trimming.{trim-le}
 
 -- a trimmed text, as the code has it, is no longer; its reading is that of the text where a definition says so
@@ -130,7 +131,7 @@ module _ (s : List ℕ) {k : ℕ} {P Q : Pool} {r : Nodes} where
   pub tail-gives :
       (a : ℕ) → Gives (shipped (take (length s - a) (drop a s))) (length (take (length s - a) (drop a s))) k P Q r →
       Gives (shipped (drop a s)) (length s - a) k P Q r
-  tail-gives a w = wider (ap shipped (sym (tail-is a s))) (simp (length-take, length-drop) (omega arith)) w
+  tail-gives a w = wider (ap shipped (sym (part-from s a))) (simp (length-take, length-drop) (omega arith)) w
 
   pub middle-gives :
       (a e : ℕ) → Gives (shipped (take (e - a) (drop a s))) (length (take (e - a) (drop a s))) k P Q r →

@@ -7,10 +7,11 @@ use lib.ListN.{length, getD, take, drop}
 use lib.Dec.{ltb, eqb}
 use Rattle.rules.specs.Tree.{Tree, var, int, nay, bin, cond, Op, Reading, tree, none}
 use Rattle.text.specs.Trim.{trim, six}
-use Rattle.scan.specs.declared.Number.{Number}
-use Rattle.scan.specs.declared.Number.the-variants.{Whole, NoNumber}
-use Rattle.scan.specs.Scan.{indexOf, endFrom, integer}
-use Rattle.scan.specs.Levels.{Kind, binary, ternary, Row, rows, found}
+use Rattle.digits.specs.declared.Number.{Number}
+use Rattle.digits.specs.declared.Number.the-variants.{Whole, NoNumber}
+use Rattle.digits.specs.Digits.{integer}
+use Rattle.scan.specs.Scan.{indexOf, endFrom}
+use Rattle.levels.specs.Levels.{Kind, binary, ternary, Row, rows, found}
 
 -- a node over the readings of its operands: one that has none leaves none
 abbrev pub one : Reading → Reading

@@ -1,5 +1,5 @@
-// The Shipped reading of a plural rule: a port of plurals.rs, `Ast::parse`, `parse_parens` and the levels; `scan` finds where to cut.
-// A piece is a part of the text; its nodes are appended to lent arrays, and `Box<Ast>` is a place in them.
+// The Shipped reading of a plural rule: a port of plurals.rs, `Ast::parse`, `parse_parens` and the levels; `levels` and `scan` find where
+// to cut. A piece is a part of the text; its nodes are appended to lent arrays, and `Box<Ast>` is a place in them.
 ghost use mathlib.Core.Path.{_≡_};
 ghost use Prim.Native.Nat.{_+_, _-_, _≤_, _<_};
 ghost use lib.ListN.{length};
@@ -8,7 +8,7 @@ ghost use Rattle.rules.specs.Store.{push};
 ghost use Rattle.rules.specs.Reads.{Answered};
 ghost use Rattle.rules.specs.declared.Nodes.the-variants as Nodes;
 ghost use Rattle.scan.specs.Scan.{indexOf};
-ghost use Rattle.scan.specs.Levels.{rows, rowAt};
+ghost use Rattle.levels.specs.Levels.{rows, rowAt};
 ghost use Rattle.shipped.specs.Shipped.{readN, readInt, colon, readNot, choose, cutAt, level, parens, shipped};
 ghost use Rattle.shipped.specs.Promise.{Gives, Cuts};
 
@@ -48,8 +48,8 @@ fn parse_int(
         (pool (now (codes .entry)) (now (places .entry)) (now (values .entry)))
         (pool (now (codes .exit)) (now (places .exit)) (now (values .exit))) r ⌝ }
 {
-    let number = scan::integer_of(s);
-    let scan::Number::Whole(v) = number else {
+    let number = digits::integer_of(s);
+    let digits::Number::Whole(v) = number else {
         return parse_n(trim::trim(s, text::Set::Six), codes, places, values, k);
     };
     rules::put(codes, places, values, k, 1, 0, 0, 0, v);
@@ -174,8 +174,8 @@ fn parse_row(
         (pool (now (codes .entry)) (now (places .entry)) (now (values .entry)))
         (pool (now (codes .exit)) (now (places .exit)) (now (values .exit))) r ⌝ }
 {
-    let i = scan::place_of(s, row);
-    let code = scan::code_of(row);
+    let i = levels::place_of(s, row);
+    let code = levels::code_of(row);
     if code == 3 {
         return parse_ternary(s, i, codes, places, values, k);
     }
@@ -183,7 +183,7 @@ fn parse_row(
     let rules::Nodes::Read(m) = left else {
         return rules::Nodes::NoReading;
     };
-    let start = i + scan::width_of(row);
+    let start = i + levels::width_of(row);
     let right = parse(&s[start..], codes, places, values, m);
     let rules::Nodes::Read(e) = right else {
         return rules::Nodes::NoReading;
@@ -204,7 +204,7 @@ fn parse_level(
         (pool (now (codes .entry)) (now (places .entry)) (now (values .entry)))
         (pool (now (codes .exit)) (now (places .exit)) (now (values .exit))) r ⌝ }
 {
-    let row = scan::row_of(s);
+    let row = levels::row_of(s);
     if row < 10 {
         return parse_row(s, row, codes, places, values, k);
     }

@@ -21,7 +21,8 @@ use Rattle.rules.specs.declared.Resolved as resolving
 use Rattle.rules.specs.declared.Resolved.the-variants.{Form}
 use Rattle.rules.specs.declared.Rated as rating
 use Rattle.rules.specs.declared.Rated.the-variants.{Range}
-use Rattle.scan.specs.Scan.{indexFrom, indexOf, endFrom, digitsFrom, integer}
+use Rattle.digits.specs.Digits.{digitsFrom, integer}
+use Rattle.scan.specs.Scan.{indexFrom, indexOf, endFrom}
 use Rattle.shipped.specs.Shipped.{shipped, parseIn, parens, level, choose, readNot}
 use Rattle.plurals.specs.declared.Reading.the-variants.{Shipped}
 use Rattle.plurals.specs.declared.Plural.{Plural}

@@ -22,7 +22,8 @@ use Rattle.rules.specs.declared.Rating.{Rating}
 use Rattle.rules.specs.declared.Rating.the-variants.{Range, Unrated}
 use Rattle.grammar.specs.Tokens.{tokens, lex}
 use Rattle.grammar.specs.Reading.{standard}
-use Rattle.scan.specs.Scan.{indexFrom, indexOf, endFrom, digitsFrom, integer}
+use Rattle.digits.specs.Digits.{digitsFrom, integer}
+use Rattle.scan.specs.Scan.{indexFrom, indexOf, endFrom}
 use Rattle.shipped.specs.Shipped.{shipped, parseIn, parens, level, choose, readNot}
 use Rattle.plurals.specs.declared.Reading.{Reading}
 use Rattle.plurals.specs.declared.Reading.the-variants.{Shipped, Standard}

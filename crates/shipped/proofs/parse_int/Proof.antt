@@ -4,7 +4,7 @@ use borrow.Author.Needs.{needs}
 use native.Mathlib.Omega.{arith}
 use Rattle.shipped.proofs.Written.{wider, gives-int}
 use Rattle.shipped.proofs.Steps.{through, trimmed-le, int-is}
-use Rattle.scan.proofs.Scanned.{integer-some}
+use Rattle.digits.proofs.Digits.{integer-some}
 use Rattle.shipped.specs.Shipped.{readN}
 use Rattle.shipped.proofs.parse_int.Statement.{statement}
 use Rattle.shipped.proofs.parse_int.Tie as tie

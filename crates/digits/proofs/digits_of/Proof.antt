@@ -1,13 +1,13 @@
--- `digits_of`: the digits of the whole are those of the rest after the number so far (Scanned). The measure is the rest's length.
+-- `digits_of`: the digits of the whole are those of the rest after the number so far (Digits). The measure is the rest's length.
 use Prim.Native.Nat.{_≤_, _-_, _<_, _^_}
 use mathlib.Core.Path.{_≡_, refl, sym, _∙_}
 use lib.ListN.{length, drop}
 use borrow.Author.Needs.{needs}
 use native.Mathlib.Omega.{arith}
-use Rattle.scan.proofs.Scanned.{digits-none, digits-some, digits-on, digits-stop, digits-end}
-use Rattle.scan.specs.Scan.{digitsFrom}
-use Rattle.scan.proofs.digits_of.Statement.{statement}
-use Rattle.scan.proofs.digits_of.Tie as tie
+use Rattle.digits.proofs.Digits.{digits-none, digits-some, digits-on, digits-stop, digits-end}
+use Rattle.digits.specs.Digits.{digitsFrom}
+use Rattle.digits.proofs.digits_of.Statement.{statement}
+use Rattle.digits.proofs.digits_of.Tie as tie
 
 abbrev Inv-loop : tie.InvT-loop
 Inv-loop s i₀ v₀ i v = (i ≤ length s) × (v < 2 ^ 64) × (digitsFrom s 0 ≡ digitsFrom (drop i s) v)

@@ -1,9 +1,9 @@
 -- `integer_of`: the digits after a plus sign, or all of them.
 use mathlib.Core.Path.{_∙_}
 use borrow.Author.Needs.{needs}
-use Rattle.scan.proofs.Scanned.{integer-none, integer-plus, integer-else}
-use Rattle.scan.proofs.integer_of.Statement.{statement}
-use Rattle.scan.proofs.integer_of.Tie as tie
+use Rattle.digits.proofs.Digits.{integer-none, integer-plus, integer-else}
+use Rattle.digits.proofs.integer_of.Statement.{statement}
+use Rattle.digits.proofs.integer_of.Tie as tie
 
 returns : tie.Need-returns
 returns c = integer-none (c .before .before .args .s .now) (c .if1 .taken)

@@ -1,9 +1,9 @@
--- `digit_on`: a digit, and a sum below 2^64, or no number (Scanned).
+-- `digit_on`: a digit, and a sum below 2^64, or no number (Digits).
 use native.Mathlib.Omega.{arith}
 use borrow.Author.Needs.{needs}
-use Rattle.scan.proofs.Scanned.{digit-low, digit-high, digit-much, digit-fits}
-use Rattle.scan.proofs.digit_on.Statement.{statement}
-use Rattle.scan.proofs.digit_on.Tie as tie
+use Rattle.digits.proofs.Digits.{digit-low, digit-high, digit-much, digit-fits}
+use Rattle.digits.proofs.digit_on.Statement.{statement}
+use Rattle.digits.proofs.digit_on.Tie as tie
 
 returns : tie.Need-returns
 returns c = digit-low _ _ (c .if1 .taken)
