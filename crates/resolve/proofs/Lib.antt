@@ -1,4 +1,3 @@
-mod Operators
 mod Near
 mod Values
 mod Short

@@ -11,7 +11,8 @@ use Rattle.rules.specs.Value.{binary, evalTree}
 use Rattle.rules.specs.Pool.{Pool, pool, code, value, opOf, treeOf, operandsTo, operands, allBelow, used, member, distinct, shaped, isTree}
 use Rattle.rules.specs.Answer.{resolvedOf}
 use Rattle.rules.proofs.Trees.{just-two, tree-var, tree-int, tree-bin}
-use Rattle.resolve.specs.Walk.{Gives, Short, formIf}
+use Rattle.apply.specs.Operator.{Gives}
+use Rattle.resolve.specs.Walk.{Short, formIf}
 use Rattle.resolve.proofs.Values.{answered}
 
 module _ (P : Pool) (count root : ℕ) (s : Short (pool (P .codes) (P .places) []) count root) where

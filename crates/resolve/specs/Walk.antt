@@ -1,40 +1,12 @@
 -- What the functions of an evaluation ask and promise of one another: the walk over operands of document 01, "Two readings of a rule".
 use Prim.Native.Nat.{ℕ, _<_, _≤_}
 use mathlib.Core.Path.{_≡_}
-use mathlib.Core.Bool.{Bool, true, false, not}
+use mathlib.Core.Bool.{Bool, true, false}
 use mathlib.Core.Logic.{_⊎_}
 use lib.Dec.{eqb}
-use Rattle.rules.specs.declared.Value.{Value}
-use Rattle.rules.specs.declared.Value.the-variants.{Is, ZeroModulus}
 use Rattle.rules.specs.declared.Resolved.{Resolved}
 use Rattle.rules.specs.declared.Resolved.the-variants as resolved
-use Rattle.rules.specs.Tree.{Op, cmp, and, or, rem, Cmp, eq}
-use Rattle.rules.specs.Pool.{Pool, code, value, operand, opOf}
-
--- the left operand settles the operator
-unfoldable pub settled : Op → ℕ → Bool
-settled (cmp k) x = false
-settled and x = eqb x 0
-settled or x = not (eqb x 0)
-settled rem x = false
-
-abbrev pub cmpIn : Op → Cmp
-cmpIn (cmp k) = k
-cmpIn and = eq
-cmpIn or = eq
-cmpIn rem = eq
-
--- the comparison of a code
-unfoldable pub cmpOf : ℕ → Cmp
-cmpOf c = cmpIn (opOf c)
-
--- a value as a number r and a flag, which was b and is c: a remainder by zero sets the flag, and the number counts where none was met
-abbrev pub Given : Value → Bool → Bool → ℕ → Type 0
-Given (Is x) b c r = (r ≡ x) × (c ≡ b)
-Given ZeroModulus b c r = c ≡ true
-
-pub record Gives (v : Value) (b c : Bool) (r : ℕ) : Type 0 where
-  pub given : Given v b c r
+use Rattle.rules.specs.Pool.{Pool, code, value, operand}
 
 -- the number of a leaf
 abbrev pub leafOf : Pool → ℕ → ℕ → ℕ

@@ -8,69 +8,12 @@ ghost use mathlib.Core.Bool.{true};
 ghost use Prim.Native.Nat.{_<_};
 ghost use lib.ListN.{getD};
 ghost use lib.Dec.{ltb};
-ghost use Rattle.rules.specs.declared.Value.the-variants as value;
-ghost use Rattle.rules.specs.Value.{truth, compared, binary, evalTree};
-ghost use Rattle.rules.specs.Pool.{pool, opOf, treeOf};
+ghost use Rattle.rules.specs.Value.{evalTree};
+ghost use Rattle.rules.specs.Pool.{pool, treeOf};
 ghost use Rattle.rules.specs.Sound.{Sound};
 ghost use Rattle.rules.specs.Answer.{resolvedOf};
-ghost use Rattle.resolve.specs.Walk.{settled, cmpOf, Gives, leafOf, Flat, Low, Short, formIf};
-
-fn truth(b: bool) -> u64
-    ensures { λ r. ⌜ r ≡ truth b ⌝ }
-{
-    if b { 1 } else { 0 }
-}
-
-// Whether the left operand alone settles a binary operator.
-fn settles(code: u8, x: u64) -> bool
-    ensures { λ r. ⌜ r ≡ settled (opOf code) x ⌝ }
-{
-    match code {
-        node::AND => x == 0,
-        node::OR => x != 0,
-        _ => false,
-    }
-}
-
-// A comparison of two numbers.
-fn compares(code: u8, x: u64, y: u64) -> bool
-    ensures { λ r. ⌜ r ≡ compared (cmpOf code) x y ⌝ }
-{
-    match code {
-        node::NOT_EQUAL => x != y,
-        node::GREATER_OR_EQUAL => x >= y,
-        node::SMALLER_OR_EQUAL => x <= y,
-        node::GREATER => x > y,
-        node::SMALLER => x < y,
-        _ => x == y,
-    }
-}
-
-// A binary operator on two numbers. A remainder by zero is told by the flag, and the number is of no use then.
-fn apply(code: u8, x: u64, y: u64, zero: &mut bool) -> u64
-    ensures { λ r. ⌜ Gives (binary (opOf code) (value.Is x) (value.Is y)) (now (zero .entry)) (now (zero .exit)) r ⌝ }
-{
-    if code < node::AND {
-        return truth(compares(code, x, y));
-    }
-    if code == node::AND {
-        if x == 0 {
-            return 0;
-        }
-        return truth(y != 0);
-    }
-    if code == node::OR {
-        if x == 0 {
-            return truth(y != 0);
-        }
-        return 1;
-    }
-    if y == 0 {
-        *zero = true;
-        return 0;
-    }
-    x % y
-}
+ghost use Rattle.apply.specs.Operator.{Gives};
+ghost use Rattle.resolve.specs.Walk.{leafOf, Flat, Low, Short, formIf};
 
 // Whether the node at a place is a leaf: n or an integer.
 fn is_leaf<'a>(codes: &'a [u8; 512], at: usize) -> bool
@@ -121,7 +64,7 @@ fn flat<'a>(
 {
     let x = leaf(codes, values, operand(places, at, 0), n);
     let y = leaf(codes, values, operand(places, at, 1), n);
-    apply(codes[at], x, y, zero)
+    apply::apply(codes[at], x, y, zero)
 }
 
 // Whether the node at a place is a binary operator on a leaf or such a node and a leaf, as n == 1 and n % 10 == 1 are.
@@ -163,7 +106,7 @@ fn low<'a>(
         flat(codes, places, values, left, n, zero)
     };
     let y = leaf(codes, values, operand(places, at, 1), n);
-    apply(codes[at], x, y, zero)
+    apply::apply(codes[at], x, y, zero)
 }
 
 // The value of the tree at a place. A remainder by zero that is met sets the flag, and the walk goes on: whatever is met is needed, so
@@ -191,7 +134,7 @@ fn eval<'a>(
         eval(codes, places, values, first, n, zero)
     };
     if code == node::NOT {
-        return truth(x == 0);
+        return apply::truth(x == 0);
     }
     if code == node::TERNARY {
         if x == 0 {
@@ -199,8 +142,8 @@ fn eval<'a>(
         }
         return eval(codes, places, values, operand(places, at, 1), n, zero);
     }
-    if settles(code, x) {
-        return apply(code, x, 0, zero);
+    if apply::settles(code, x) {
+        return apply::apply(code, x, 0, zero);
     }
     let second = operand(places, at, 1);
     let y = if is_leaf(codes, second) {
@@ -208,7 +151,7 @@ fn eval<'a>(
     } else {
         eval(codes, places, values, second, n, zero)
     };
-    apply(code, x, y, zero)
+    apply::apply(code, x, y, zero)
 }
 
 // Whether a rule is a binary operator on n and an integer, as n != 1, the rule of most languages. So small a tree is told at once.
@@ -262,7 +205,7 @@ pub fn resolve<'a>(
 {
     let mut zero = false;
     if is_short(codes, places, count, root) {
-        let short = apply(codes[2], n, values[1], &mut zero);
+        let short = apply::apply(codes[2], n, values[1], &mut zero);
         return form_of(short, zero);
     }
     if !tree::is_tree(codes, places, count, root) {

@@ -8,7 +8,7 @@ use denote.Ref.{now}
 use borrow.Author.Tests.{ltb-true}
 use Rattle.rules.specs.Value.{evalTree}
 use Rattle.rules.specs.Pool.{Pool, pool, operand, treeOf}
-use Rattle.resolve.specs.Walk.{Gives}
+use Rattle.apply.specs.Operator.{Gives}
 use Rattle.rules.proofs.Places.{sound-any}
 use Rattle.rules.proofs.Trees.{first-in, second-in, third-in, first-down, second-low, down, binary-above, ternary-in}
 use Rattle.resolve.proofs.Values.{at-leaf, at-nay, at-no, at-yes, at-settled, at-both, moved}
@@ -19,14 +19,14 @@ use borrow.Fn.PlainCycle.{Measures, is, falls, and}
 use Rattle.resolve.proofs.eval.Reads as eval
 use Rattle.resolve.proofs.eval.Kinds as eval-kinds
 use Rattle.resolve.proofs.+eval.Lts-eval as eval-lts
-use Rattle.resolve.proofs.apply.Reads as apply-reads
+use Rattle.apply.proofs.apply.Reads as apply-reads
 use Rattle.resolve.proofs.low.Reads as low-reads
 use Rattle.resolve.proofs.is_low.Reads as is-low-reads
 use Rattle.resolve.proofs.is_leaf.Reads as is-leaf-reads
 use Rattle.resolve.proofs.leaf.Reads as leaf-reads
 use Rattle.rules.proofs.operand.Reads as operand-reads
-use Rattle.resolve.proofs.settles.Reads as settles-reads
-use Rattle.resolve.proofs.truth.Reads as truth-reads
+use Rattle.apply.proofs.settles.Reads as settles-reads
+use Rattle.apply.proofs.truth.Reads as truth-reads
 use Rattle.resolve.proofs.+eval.{statement}
 use Rattle.resolve.proofs.+eval.Tie.{close}
 
@@ -166,7 +166,7 @@ eval-returns-5 t c =
     let d : One t = c .before .before .before .before .before .before in
     let s : St t = start d in
     at-settled (P s) (s .args .at) (s .args .n) (binary-above (P s) (s .args .at) (s .pre .1) (omega arith)) (first-is d)
-    (sym (c .before .before .before .settles .ensures) ∙ c .before .before .if6 .taken) (c .apply .ensures)
+    (sym (c .before .before .before .settles .ensures) ∙ c .before .before .if6 .taken) (c .apply .ensures .0)
 
 eval-operand-requires-4 : (t : ℕ) → eval-lts.Need-operand-requires-4 (R-eval t) (eval-at t) eval.Post
 eval-operand-requires-4 t c κs = search needs
@@ -197,7 +197,7 @@ eval-returns-6 t c =
     let d : One t = c .before .before .before .before .before .before .before .before .before in
     let s : St t = start d in
     at-both (P s) (s .args .at) (s .args .n) (binary-above (P s) (s .args .at) (s .pre .1) (omega arith)) (first-is d)
-    (sym (c .before .before .before .before .before .before .settles .ensures) ∙ c .before .before .before .before .before .if6 .left) (second-is (c .before .before)) (c .apply2 .ensures)
+    (sym (c .before .before .before .before .before .before .settles .ensures) ∙ c .before .before .before .before .before .if6 .left) (second-is (c .before .before)) (c .apply2 .ensures .0)
 
 pub +eval-spec : {M : Type 1} → statement M
 +eval-spec = close μ-eval λ t. eval-lts.spec (

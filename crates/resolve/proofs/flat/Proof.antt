@@ -37,7 +37,7 @@ returns c =
     let P : Pool = pool (now (s .args .codes)) (now (s .args .places)) (now (s .args .values)) in
     at-low P (s .args .at) (s .args .n) (binary-above P (s .args .at) (s .pre .0) (s .pre .1 .binary)) (s .pre .1 .right)
     (moved P _ (s .args .n) (at-leaf P _ (s .args .n) (rw (c .before .before .before .before .before .before .operand .ensures) (s .pre .1 .left)) (c .before .before .before .before .before .leaf .ensures)) (c .before .before .before .before .before .before .operand .ensures) refl refl)
-    (c .before .before .before .before .operand2 .ensures) (c .before .before .before .leaf2 .ensures) (c .apply .ensures)
+    (c .before .before .before .before .operand2 .ensures) (c .before .before .before .leaf2 .ensures) (c .apply .ensures .0)
 
 pub flat-spec : {M : Type 1} → statement M
 flat-spec =

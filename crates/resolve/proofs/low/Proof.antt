@@ -58,7 +58,7 @@ returns c =
     (at-leaf P _ (s .args .n) (ltb-true _ _ (sym (c .before .before .before .before .before .before .is-leaf .ensures) ∙ w .0 .taken)) (w .1 .ensures)) (c .before .before .before .before .before .before .before .operand .ensures) (w .2) (w .3))
     (λ w. moved P _ (s .args .n) (w .2 .ensures) (c .before .before .before .before .before .before .before .operand .ensures) (w .3) (w .4))
     (c .before .before .before .before .before .if1 .came))
-    (c .before .before .before .before .operand2 .ensures) (c .before .before .before .leaf2 .ensures) (c .apply .ensures)
+    (c .before .before .before .before .operand2 .ensures) (c .before .before .before .leaf2 .ensures) (c .apply .ensures .0)
 
 pub low-spec : {M : Type 1} → statement M
 low-spec =

@@ -33,7 +33,7 @@ returns : tie.Need-returns
 returns c =
     let s : tie.Start = c .before .before .before .before .before .before .before in
     c .form-of .ensures
-    ∙ short-answered (P s) (s .args .count) (s .args .root) (c .before .before .before .before .before .before .is-short .ensures (c .before .before .before .before .before .if1 .taken)) (s .args .n) _ (c .before .apply .ensures)
+    ∙ short-answered (P s) (s .args .count) (s .args .root) (c .before .before .before .before .before .before .is-short .ensures (c .before .before .before .before .before .if1 .taken)) (s .args .n) _ (c .before .apply .ensures .0)
 
 is-tree-requires : tie.Need-is-tree-requires
 is-tree-requires c κs = search needs

@@ -1,10 +1,10 @@
--- `resolve::settles` meets its contract: only && and || are settled by their left operand.
+-- `apply::settles` meets its contract: only && and || are settled by their left operand.
 use mathlib.Core.Path.{sym}
 use Rattle.rules.specs.Pool.{opOf, opAt}
-use Rattle.resolve.specs.Walk.{settled}
-use Rattle.resolve.proofs.Operators.{settled-other}
-use Rattle.resolve.proofs.settles.Statement.{statement}
-use Rattle.resolve.proofs.settles.Tie as tie
+use Rattle.apply.specs.Operator.{settled}
+use Rattle.apply.proofs.Operators.{settled-other}
+use Rattle.apply.proofs.settles.Statement.{statement}
+use Rattle.apply.proofs.settles.Tie as tie
 
 returns : tie.Need-returns
 unfolding settled opOf opAt

@@ -1,9 +1,9 @@
--- `resolve::compares` meets its contract: an arm's code picks the comparison, and no other code is that of another than ==.
+-- `apply::compares` meets its contract: an arm's code picks the comparison, and no other code is that of another than ==.
 use Rattle.rules.specs.Pool.{opOf, opAt}
-use Rattle.resolve.specs.Walk.{cmpOf}
-use Rattle.resolve.proofs.Operators.{cmp-other}
-use Rattle.resolve.proofs.compares.Statement.{statement}
-use Rattle.resolve.proofs.compares.Tie as tie
+use Rattle.apply.specs.Operator.{cmpOf}
+use Rattle.apply.proofs.Operators.{cmp-other}
+use Rattle.apply.proofs.compares.Statement.{statement}
+use Rattle.apply.proofs.compares.Tie as tie
 
 returns : tie.Need-returns
 unfolding cmpOf opOf opAt

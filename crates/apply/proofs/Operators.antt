@@ -11,7 +11,7 @@ use Rattle.rules.specs.Tree.{Op, cmp, and, or, rem, eq}
 use Rattle.rules.specs.Value.{binary, truthV}
 use Rattle.rules.specs.Pool.{opOf}
 use Rattle.rules.proofs.Operators.{never, each, by-code}
-use Rattle.resolve.specs.Walk.{settled, cmpIn, cmpOf}
+use Rattle.apply.specs.Operator.{settled, cmpIn, cmpOf}
 
 pub op-cmp : (c : ℕ) → c < 10 → opOf c ≡ cmp (cmpOf c)
 unfolding cmpOf
