@@ -64,7 +64,7 @@ def port(folder):
     lib.gettext_rattle_load.restype = Loaded
     lib.gettext_rattle_evaluate.argtypes = rule + [c_uint64]
     lib.gettext_rattle_evaluate.restype = Form
-    lib.gettext_rattle_ngettext.argtypes = [c_char_p, c_size_t, Tables] + rule + [c_char_p, c_size_t, c_uint64]
+    lib.gettext_rattle_ngettext.argtypes = [c_char_p, c_size_t, POINTER(Tables)] + rule + [c_char_p, c_size_t, c_uint64]
     lib.gettext_rattle_ngettext.restype = Answer
     return lib
 
@@ -93,7 +93,7 @@ class Port:
     def ngettext(self, file, loaded, key, plural, n):
         r = loaded.catalog
         tables = Tables(r.length, r.count, r.originals, r.translations, r.big)
-        a = self.lib.gettext_rattle_ngettext(file, len(file), tables, *self.rule(loaded), key, len(key), n)
+        a = self.lib.gettext_rattle_ngettext(file, len(file), byref(tables), *self.rule(loaded), key, len(key), n)
         text = [file[a.start : a.start + a.len], key, plural][a.which]
         return a.number, a.which, text
 
