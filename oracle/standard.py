@@ -30,20 +30,25 @@ FORMS_AT = [0, 1, 2, 3, 4, 5, 7, 10, 11, 12, 21, 22, 100, 111, 2**32, TOP]
 # The port.
 
 
-class Record(ctypes.Structure):
-    _fields_ = [(name, c_size_t) for name in ("length", "count", "originals", "translations", "big", "nodes", "root")] + [
-        ("values", c_uint64 * 512),
-        ("places", c_uint16 * 1536),
-        ("codes", c_uint8 * 512),
-    ]
+PLACES = 1536
 
 
-class Tables(ctypes.Structure):
-    _fields_ = Record._fields_[:5]
+class Head(ctypes.Structure):
+    _fields_ = [(name, c_size_t) for name in ("length", "count", "originals", "translations", "big", "nodes", "root")]
 
 
 class Loaded(ctypes.Structure):
-    _fields_ = [("number", c_uint32), ("catalog", Record)]
+    _fields_ = [("number", c_uint32), ("head", Head)]
+
+
+class Record:
+    """What a load leaves: its number and its head, and the arrays of its rule."""
+
+    def __init__(self):
+        self.codes, self.places, self.values = (c_uint8 * 512)(), (c_uint16 * PLACES)(), (c_uint64 * 512)()
+
+    def rule(self):
+        return byref(self.codes), byref(self.places), byref(self.values)
 
 
 class Form(ctypes.Structure):
@@ -59,13 +64,13 @@ def port(folder):
     shared = os.path.join(folder, "libgettext_c.so")
     subprocess.run(["gcc", "-shared", "-o", shared, "-Wl,--whole-archive", library, "-Wl,--no-whole-archive"], check=True)
     lib = ctypes.CDLL(shared)
-    rule = [POINTER(c_uint8 * 512), POINTER(c_uint16 * 1536), POINTER(c_uint64 * 512), c_size_t, c_size_t]
-    lib.gettext_rattle_load.argtypes = [c_char_p, c_size_t, c_char_p, c_size_t, c_uint32, c_uint32, c_uint32]
-    lib.gettext_rattle_load.restype = Loaded
-    lib.gettext_rattle_evaluate.argtypes = rule + [c_uint64]
-    lib.gettext_rattle_evaluate.restype = Form
-    lib.gettext_rattle_ngettext.argtypes = [c_char_p, c_size_t, POINTER(Tables)] + rule + [c_char_p, c_size_t, c_uint64]
-    lib.gettext_rattle_ngettext.restype = Answer
+    rule = [POINTER(c_uint8 * 512), POINTER(c_uint16 * PLACES), POINTER(c_uint64 * 512)]
+    lib.gettext_c_load.argtypes = [c_char_p, c_size_t, c_char_p, c_size_t, c_uint32, c_uint32, c_uint32] + rule
+    lib.gettext_c_load.restype = Loaded
+    lib.gettext_c_resolve.argtypes = [POINTER(Head)] + rule + [c_uint64]
+    lib.gettext_c_resolve.restype = Form
+    lib.gettext_c_ngettext.argtypes = [c_char_p, c_size_t, POINTER(Head)] + rule + [c_char_p, c_size_t, c_uint64]
+    lib.gettext_c_ngettext.restype = Answer
     return lib
 
 
@@ -77,23 +82,19 @@ class Port:
         self.lib = port(folder)
 
     def load(self, file, rule=None):
-        forced = rule is not None
-        return self.lib.gettext_rattle_load(file, len(file), rule or b"", len(rule or b""), forced, 1, 0)
-
-    def rule(self, loaded):
-        r = loaded.catalog
-        return byref(r.codes), byref(r.places), byref(r.values), r.nodes, r.root
+        forced, record = rule is not None, Record()
+        loaded = self.lib.gettext_c_load(file, len(file), rule or b"", len(rule or b""), forced, 1, 0, *record.rule())
+        record.number, record.head = loaded.number, loaded.head
+        return record
 
     def value(self, loaded, n):
         """The form, or None for a remainder by zero."""
-        form = self.lib.gettext_rattle_evaluate(*self.rule(loaded), n)
+        form = self.lib.gettext_c_resolve(byref(loaded.head), *loaded.rule(), n)
         assert form.number in (0, 10)
         return form.form if form.number == 0 else None
 
     def ngettext(self, file, loaded, key, plural, n):
-        r = loaded.catalog
-        tables = Tables(r.length, r.count, r.originals, r.translations, r.big)
-        a = self.lib.gettext_rattle_ngettext(file, len(file), byref(tables), *self.rule(loaded), key, len(key), n)
+        a = self.lib.gettext_c_ngettext(file, len(file), byref(loaded.head), *loaded.rule(), key, len(key), n)
         text = [file[a.start : a.start + a.len], key, plural][a.which]
         return a.number, a.which, text
 

@@ -63,14 +63,14 @@ fn faster(group: &'static str, case: String, unit: &'static str, ours: f64, othe
 fn load(rows: &mut Vec<Row>, files: &[Vec<u8>]) {
     let both: Vec<&Vec<u8>> = files
         .iter()
-        .filter(|f| gettext_rattle::Catalog::parse(f).is_ok() && gettext::Catalog::parse(&f[..]).is_ok())
+        .filter(|f| gettext_rattle::Catalog::parse_slice(f).is_ok() && gettext::Catalog::parse(&f[..]).is_ok())
         .collect();
     let bytes: usize = both.iter().map(|f| f.len()).sum();
     let speed = |seconds: f64| bytes as f64 / seconds / 1e6;
     let [ours, other] = race(
         7,
         [
-            &mut || both.iter().for_each(|f| keep(gettext_rattle::Catalog::parse(f))),
+            &mut || both.iter().for_each(|f| keep(gettext_rattle::Catalog::parse_slice(f))),
             &mut || both.iter().for_each(|f| keep(gettext::Catalog::parse(&f[..]))),
         ],
     )
@@ -81,17 +81,17 @@ fn load(rows: &mut Vec<Row>, files: &[Vec<u8>]) {
 
 /// What a loaded catalog holds beyond its file, and how many allocations made it.
 fn memory(rows: &mut Vec<Row>, files: &[Vec<u8>]) {
-    let Some(file) = files.iter().filter(|f| gettext_rattle::Catalog::parse(f).is_ok()).max_by_key(|f| f.len()) else {
+    let Some(file) = files.iter().filter(|f| gettext_rattle::Catalog::parse_slice(f).is_ok()).max_by_key(|f| f.len()) else {
         return;
     };
     let before = count::now();
-    let ours = gettext_rattle::Catalog::parse(file);
+    let ours = gettext_rattle::Catalog::parse_slice(file);
     let mine = count::now().since(before);
     let before = count::now();
     let other = gettext::Catalog::parse(&file[..]);
     let theirs = count::now().since(before);
     black_box((ours.is_ok(), other.is_ok()));
-    let held = mine.bytes + std::mem::size_of::<gettext_rattle::Catalog>();
+    let held = mine.bytes + std::mem::size_of::<gettext_rattle::Catalog<&[u8]>>();
     let size = format!("a catalog of {} bytes", file.len());
     rows.push(faster("memory", format!("bytes held, {size}"), "bytes", held as f64, theirs.bytes as f64, "crate"));
     rows.push(faster("memory", format!("allocations, {size}"), "count", mine.calls as f64, theirs.calls as f64, "crate"));
@@ -116,7 +116,7 @@ struct Lookups {
 }
 
 fn lookups(messages: &[Message], file: &[u8]) -> Lookups {
-    let ours = gettext_rattle::Catalog::parse(file).expect("a generated catalog loads");
+    let ours = gettext_rattle::Catalog::parse_slice(file).expect("a generated catalog loads");
     let other = gettext::Catalog::parse(file).expect("a generated catalog loads in the crate");
     let order = shuffled(messages.len());
     let absent: Vec<String> = messages.iter().map(|m| format!("{}?", m.id)).collect();
@@ -190,12 +190,13 @@ fn evaluation(rows: &mut Vec<Row>) {
     for (name, rule) in [("n != 1", "n != 1"), ("Russian", RUSSIAN), ("Arabic", ARABIC)] {
         // the Shipped reading is the crate's; a catalog that is meant to be read right asks for Standard
         let (_, file) = generated(0, rule);
-        let ours = gettext_rattle::Catalog::parse(&file).expect("it loads");
-        let standard = gettext_rattle::ParseOptions::new().reading(gettext_rattle::Reading::Standard).parse(&file).expect("it loads");
+        let ours = gettext_rattle::Catalog::parse_slice(&file).expect("it loads");
+        let standard = gettext_rattle::ParseOptions::new().reading(gettext_rattle::Reading::Standard).parse_slice(&file).expect("it loads");
         let other = gettext::Catalog::parse(&file[..]).expect("it loads");
         // a record can be altered, so each lookup tests that its nodes are a tree; where the last one has no known code, that is all
-        let mut broken = ffi::load(&file, None, false, false).catalog;
-        broken.codes[broken.nodes - 1] = 255;
+        let mut broken = ffi::blank();
+        ffi::load(&file, None, false, false, &mut broken);
+        broken.codes[broken.head.nodes - 1] = 255;
         let id = "no such message";
         let each = race(
             200,
@@ -203,7 +204,7 @@ fn evaluation(rows: &mut Vec<Row>) {
                 &mut || (0..2000).for_each(|n| keep(ours.ngettext(black_box(id), "many", n))),
                 &mut || (0..2000).for_each(|n| keep(standard.ngettext(black_box(id), "many", n))),
                 &mut || (0..2000).for_each(|n| keep(other.ngettext(black_box(id), "many", n))),
-                &mut || (0..2000).for_each(|n| keep(ffi::evaluate(black_box(&broken), n))),
+                &mut || (0..2000).for_each(|n| keep(ffi::resolve(black_box(&broken), n))),
             ],
         );
         let [shipped, standard, theirs, test] = each.map(|seconds| seconds / 2000.0 * 1e9);

@@ -1,5 +1,5 @@
 /* Loads a catalog and prints a plural for some counts: example CATALOG.mo */
-#include "gettext_rattle.h"
+#include "gettext_c.h"
 
 #include <stdio.h>
 
@@ -28,10 +28,16 @@ int main(int argc, char **argv)
     size_t size = fread(file, 1, sizeof file, f);
     fclose(f);
 
-    gettext_rattle_record catalog;
-    uint32_t number = gr_load(file, size, NULL, GETTEXT_RATTLE_STANDARD, &catalog);
-    if (number != GETTEXT_RATTLE_OK) {
-        fprintf(stderr, "refused %u\n", (unsigned)number);
+    /* a file whose entries overlap may ask for far more to be looked at than it has bytes: not here */
+    if (gr_cost(file, size) > size) {
+        fprintf(stderr, "refused: the load would look at %llu bytes\n", (unsigned long long)gr_cost(file, size));
+        return 1;
+    }
+    gr_record catalog;
+    gr_options options = {NULL, GR_STANDARD, 0};
+    uint32_t number = gr_load(file, size, &options, &catalog);
+    if (number != GR_OK) {
+        fprintf(stderr, "refused %u: %s\n", (unsigned)number, gr_error_name(number));
         return 1;
     }
     gr_text title = gr_gettext(file, size, &catalog, "Your invoice");

@@ -1,5 +1,5 @@
-/* Calls each function of gettext_rattle.h once and more, on document 01's files F and G. Says how many checks passed. */
-#include "gettext_rattle.h"
+/* Calls each function of gettext_c.h once and more, on document 01's files F and G. Says how many checks passed. */
+#include "gettext_c.h"
 
 #include <stdio.h>
 #include <stdlib.h>
@@ -16,6 +16,16 @@ static void check(int ok, const char *what, int line)
 }
 
 #define CHECK(e) check((e) != 0, #e, __LINE__)
+
+/* Options with a forced rule, or null, and a reading. */
+static const gr_options *with(const char *rule, enum gr_reading reading)
+{
+    static gr_options o;
+    o.rule = rule;
+    o.reading = reading;
+    o.utf8 = 0;
+    return &o;
+}
 
 static int is(gr_text t, uint32_t number, const char *text)
 {
@@ -41,33 +51,33 @@ static uint8_t *copy(size_t len)
 
 static void loads_and_refusals(void)
 {
-    gettext_rattle_record r;
+    gr_record r;
     uint8_t *f = copy(48);
     f[36] = 1;
-    CHECK(gr_load(f, 48, NULL, GETTEXT_RATTLE_SHIPPED, &r) == GETTEXT_RATTLE_OK);
-    CHECK(r.tables.length == 48 && r.tables.count == 1 && r.tables.originals == 28 && r.tables.translations == 36);
-    CHECK(r.tables.big == 0 && r.nodes == 3 && r.root == 2);
-    CHECK(gr_load(f, 47, NULL, GETTEXT_RATTLE_SHIPPED, &r) == GETTEXT_RATTLE_EOF);
-    CHECK(r.tables.length == 0 && r.tables.count == 0 && r.nodes == 3 && r.root == 2);
-    CHECK(gr_load(NULL, 0, NULL, GETTEXT_RATTLE_SHIPPED, &r) == GETTEXT_RATTLE_EOF);
-    CHECK(gr_load(f, 48, "", GETTEXT_RATTLE_STANDARD, &r) == GETTEXT_RATTLE_PLURAL_PARSING);
-    CHECK(gr_load(f, 48, "+7", GETTEXT_RATTLE_STANDARD, &r) == GETTEXT_RATTLE_PLURAL_PARSING);
-    CHECK(gr_load(f, 48, "+7", GETTEXT_RATTLE_SHIPPED, &r) == GETTEXT_RATTLE_OK);
+    CHECK(gr_load(f, 48, NULL, &r) == GR_OK);
+    CHECK(r.head.length == 48 && r.head.count == 1 && r.head.originals == 28 && r.head.translations == 36);
+    CHECK(r.head.big == 0 && r.head.nodes == 3 && r.head.root == 2);
+    CHECK(gr_load(f, 47, NULL, &r) == GR_EOF);
+    CHECK(r.head.length == 0 && r.head.count == 0 && r.head.nodes == 3 && r.head.root == 2);
+    CHECK(gr_load(NULL, 0, NULL, &r) == GR_EOF);
+    CHECK(gr_load(f, 48, with("", GR_STANDARD), &r) == GR_PLURAL_PARSING);
+    CHECK(gr_load(f, 48, with("+7", GR_STANDARD), &r) == GR_PLURAL_PARSING);
+    CHECK(gr_load(f, 48, with("+7", GR_SHIPPED), &r) == GR_OK);
     f[46] = 0xff;
-    CHECK(gr_load(f, 48, NULL, GETTEXT_RATTLE_SHIPPED, &r) == GETTEXT_RATTLE_DECODING_ERROR);
+    CHECK(gr_load(f, 48, NULL, &r) == GR_DECODING_ERROR);
     f[0] = 0;
-    CHECK(gr_load(f, 48, NULL, GETTEXT_RATTLE_SHIPPED, &r) == GETTEXT_RATTLE_BAD_MAGIC);
+    CHECK(gr_load(f, 48, NULL, &r) == GR_BAD_MAGIC);
     free(f);
     f = copy(47);
-    CHECK(gr_load(f, 47, NULL, GETTEXT_RATTLE_SHIPPED, &r) == GETTEXT_RATTLE_EOF);
+    CHECK(gr_load(f, 47, NULL, &r) == GR_EOF);
     free(f);
 }
 
 static void lookups(void)
 {
     uint8_t *g = copy(50);
-    gettext_rattle_record r;
-    CHECK(gr_load(g, 50, NULL, GETTEXT_RATTLE_STANDARD, &r) == GETTEXT_RATTLE_OK);
+    gr_record r;
+    CHECK(gr_load(g, 50, with(NULL, GR_STANDARD), &r) == GR_OK);
     CHECK(is(gr_gettext(g, 50, &r, "a"), 0, "b"));
     CHECK(gr_gettext(g, 50, &r, "a").text == (const char *)g + 46);
     CHECK(is(gr_gettext(g, 50, &r, "c"), 0, "c"));
@@ -77,11 +87,11 @@ static void lookups(void)
     CHECK(is(gr_ngettext(g, 50, &r, "z", "zs", 1), 0, "z"));
     CHECK(is(gr_ngettext(g, 50, &r, "z", "zs", 2), 0, "zs"));
     CHECK(is(gr_npgettext(g, 50, &r, "x", "a", "as", 2), 0, "as"));
-    gettext_rattle_answer a =
-        gettext_rattle_ngettext(g, 50, &r.tables, r.codes, r.places, r.values, r.nodes, r.root, (const uint8_t *)"a", 1, 7);
-    CHECK(a.number == 0 && a.which == GETTEXT_RATTLE_SEGMENT && a.entry == 0 && a.form == 1 && a.start == 48 && a.len == 1);
-    CHECK(gr_load(g, 50, "1%n", GETTEXT_RATTLE_STANDARD, &r) == GETTEXT_RATTLE_OK);
-    CHECK(is(gr_ngettext(g, 50, &r, "a", "as", 0), GETTEXT_RATTLE_ZERO_MODULUS, "as"));
+    gr_answer a =
+        gettext_c_ngettext(g, 50, &r.head, r.codes, r.places, r.values, (const uint8_t *)"a", 1, 7);
+    CHECK(a.number == 0 && a.which == GR_SEGMENT && a.entry == 0 && a.form == 1 && a.start == 48 && a.len == 1);
+    CHECK(gr_load(g, 50, with("1%n", GR_STANDARD), &r) == GR_OK);
+    CHECK(is(gr_ngettext(g, 50, &r, "a", "as", 0), GR_ZERO_MODULUS, "as"));
     CHECK(is(gr_ngettext(g, 50, &r, "a", "as", 1), 0, "b"));
     free(g);
 }
@@ -90,32 +100,32 @@ static void lookups(void)
 static void altered_records(void)
 {
     uint8_t *g = copy(50);
-    gettext_rattle_record r;
-    CHECK(gr_load(g, 50, NULL, GETTEXT_RATTLE_STANDARD, &r) == GETTEXT_RATTLE_OK);
-    CHECK(is(gr_gettext(g, 49, &r, "a"), GETTEXT_RATTLE_BAD_RECORD, "a"));
-    CHECK(is(gr_ngettext(g, 49, &r, "a", "as", 2), GETTEXT_RATTLE_BAD_RECORD, "as"));
-    r.root = 512;
-    CHECK(is(gr_ngettext(g, 50, &r, "a", "as", 1), GETTEXT_RATTLE_BAD_RECORD, "a"));
-    CHECK(is(gr_npgettext(g, 50, &r, "x", "a", "as", 2), GETTEXT_RATTLE_BAD_RECORD, "as"));
+    gr_record r;
+    CHECK(gr_load(g, 50, with(NULL, GR_STANDARD), &r) == GR_OK);
+    CHECK(is(gr_gettext(g, 49, &r, "a"), GR_BAD_RECORD, "a"));
+    CHECK(is(gr_ngettext(g, 49, &r, "a", "as", 2), GR_BAD_RECORD, "as"));
+    r.head.root = 512;
+    CHECK(is(gr_ngettext(g, 50, &r, "a", "as", 1), GR_BAD_RECORD, "a"));
+    CHECK(is(gr_npgettext(g, 50, &r, "x", "a", "as", 2), GR_BAD_RECORD, "as"));
     CHECK(is(gr_gettext(g, 50, &r, "a"), 0, "b"));
-    CHECK(gr_rating(&r).number == GETTEXT_RATTLE_BAD_RECORD && gr_rating(&r).rated == 0);
-    CHECK(gr_fits(&r, 9).number == GETTEXT_RATTLE_BAD_RECORD && gr_fits(&r, 9).fits == 0);
-    CHECK(gr_form(&r, 9).number == GETTEXT_RATTLE_BAD_RECORD && gr_form(&r, 9).form == 0);
+    CHECK(gr_rating(&r).number == GR_BAD_RECORD && gr_rating(&r).rated == 0);
+    CHECK(gr_fits(&r, 9).number == GR_BAD_RECORD && gr_fits(&r, 9).fits == 0);
+    CHECK(gr_resolve(&r, 9).number == GR_BAD_RECORD && gr_resolve(&r, 9).form == 0);
     memset(&r, 0xff, sizeof r);
-    r.tables.length = 50;
+    r.head.length = 50;
     CHECK(is(gr_gettext(g, 50, &r, "a"), 0, "a"));
-    CHECK(is(gr_ngettext(g, 50, &r, "a", "as", 2), GETTEXT_RATTLE_BAD_RECORD, "as"));
+    CHECK(is(gr_ngettext(g, 50, &r, "a", "as", 2), GR_BAD_RECORD, "as"));
     /* a count that no file has: what lies outside the file is no entry */
-    CHECK(gr_load(g, 50, NULL, GETTEXT_RATTLE_STANDARD, &r) == GETTEXT_RATTLE_OK);
-    r.tables.count = SIZE_MAX;
+    CHECK(gr_load(g, 50, with(NULL, GR_STANDARD), &r) == GR_OK);
+    r.head.count = SIZE_MAX;
     CHECK(is(gr_ngettext(g, 50, &r, "a", "as", 2), 0, "c"));
-    r.tables.translations = SIZE_MAX;
+    r.head.translations = SIZE_MAX;
     CHECK(is(gr_ngettext(g, 50, &r, "a", "as", 2), 0, "as"));
-    r.tables.originals = SIZE_MAX - 7;
+    r.head.originals = SIZE_MAX - 7;
     CHECK(is(gr_gettext(g, 50, &r, "a"), 0, "a"));
     /* any number but 0 is yes: the words read the other way round name nothing in this file */
-    CHECK(gr_load(g, 50, NULL, GETTEXT_RATTLE_STANDARD, &r) == GETTEXT_RATTLE_OK);
-    r.tables.big = 256;
+    CHECK(gr_load(g, 50, with(NULL, GR_STANDARD), &r) == GR_OK);
+    r.head.big = 256;
     CHECK(is(gr_gettext(g, 50, &r, "a"), 0, "a"));
     free(g);
 }
@@ -123,36 +133,102 @@ static void altered_records(void)
 static void rules(void)
 {
     uint8_t *g = copy(50);
-    gettext_rattle_record r;
-    CHECK(gr_load(g, 50, "n%10", GETTEXT_RATTLE_STANDARD, &r) == GETTEXT_RATTLE_OK);
+    gr_record r;
+    CHECK(gr_load(g, 50, with("n%10", GR_STANDARD), &r) == GR_OK);
     CHECK(gr_rating(&r).number == 0 && gr_rating(&r).rated == 1 && gr_rating(&r).lowest == 0 && gr_rating(&r).highest == 9);
     CHECK(gr_fits(&r, 10).number == 0 && gr_fits(&r, 10).fits == 1 && gr_fits(&r, 9).fits == 0);
-    CHECK(gr_form(&r, 27).number == 0 && gr_form(&r, 27).form == 7);
-    CHECK(gr_load(g, 50, "n", GETTEXT_RATTLE_STANDARD, &r) == GETTEXT_RATTLE_OK);
-    CHECK(gr_rating(&r).highest == UINT64_MAX && gr_form(&r, UINT64_MAX).form == UINT64_MAX);
-    CHECK(gr_load(g, 50, "5%n", GETTEXT_RATTLE_STANDARD, &r) == GETTEXT_RATTLE_OK);
+    CHECK(gr_resolve(&r, 27).number == 0 && gr_resolve(&r, 27).form == 7);
+    CHECK(gr_load(g, 50, with("n", GR_STANDARD), &r) == GR_OK);
+    CHECK(gr_rating(&r).highest == UINT64_MAX && gr_resolve(&r, UINT64_MAX).form == UINT64_MAX);
+    CHECK(gr_load(g, 50, with("5%n", GR_STANDARD), &r) == GR_OK);
     CHECK(gr_rating(&r).number == 0 && gr_rating(&r).rated == 0 && gr_rating(&r).highest == 0);
-    CHECK(gr_form(&r, 0).number == GETTEXT_RATTLE_ZERO_MODULUS && gr_form(&r, 0).form == 0);
+    CHECK(gr_resolve(&r, 0).number == GR_ZERO_MODULUS && gr_resolve(&r, 0).form == 0);
     free(g);
 }
 
 static void rest(void)
 {
     uint8_t *g = copy(50);
-    gettext_rattle_record r = gettext_rattle_empty();
-    CHECK(r.tables.count == 0 && r.tables.length == 0 && r.nodes == 3);
+    gr_record r;
+    gr_empty(&r);
+    CHECK(r.head.count == 0 && r.head.length == 0 && r.head.nodes == 3);
     CHECK(is(gr_gettext(NULL, 0, &r, "a"), 0, "a"));
     CHECK(is(gr_ngettext(NULL, 0, &r, "a", "as", 2), 0, "as"));
-    CHECK(is(gr_gettext(g, 50, &r, "a"), GETTEXT_RATTLE_BAD_RECORD, "a"));
+    CHECK(is(gr_gettext(g, 50, &r, "a"), GR_BAD_RECORD, "a"));
     CHECK(gr_rating(&r).rated == 1 && gr_rating(&r).highest == 1);
-    CHECK(gettext_rattle_is_utf8((const uint8_t *)"\xc3\xa4", 2) == 1);
-    CHECK(gettext_rattle_is_utf8((const uint8_t *)"\xc3\xa4", 1) == 0);
-    CHECK(gettext_rattle_is_utf8((const uint8_t *)"", 0) == 1);
+    CHECK(gr_is_utf8("\xc3\xa4", 2));
+    CHECK(!gr_is_utf8("\xc3\xa4", 1));
+    CHECK(gr_is_utf8("", 0));
+
+    CHECK(gr_cost(g, 50) == 4);
+    CHECK(gr_cost(g, 27) == 0);
+    free(g);
+}
+
+/* A null text is the empty one, in every place that takes a text; a null file has no bytes, whatever its length is said to be. */
+static void nulls(void)
+{
+    uint8_t *g = copy(50);
+    gr_record r;
+    CHECK(gr_load(NULL, 50, NULL, &r) == GR_EOF);
+    CHECK(gr_load(g, 50, with(NULL, GR_STANDARD), &r) == GR_OK);
+    CHECK(is(gr_gettext(g, 50, &r, NULL), 0, ""));
+    CHECK(is(gr_pgettext(g, 50, &r, NULL, "a"), 0, "a"));
+    CHECK(is(gr_pgettext(g, 50, &r, "x", NULL), 0, ""));
+    CHECK(is(gr_ngettext(g, 50, &r, NULL, "as", 1), 0, ""));
+    CHECK(is(gr_ngettext(g, 50, &r, "z", NULL, 2), 0, ""));
+    CHECK(is(gr_npgettext(g, 50, &r, NULL, NULL, NULL, 2), 0, ""));
+    CHECK(is(gr_gettext(NULL, 50, &r, "a"), GR_BAD_RECORD, "a"));
+    CHECK(is(gr_ngettext(NULL, 50, &r, "a", "as", 2), GR_BAD_RECORD, "as"));
+    CHECK(gr_is_utf8(NULL, 7));
+    CHECK(gr_cost(NULL, 7) == 0);
+    free(g);
+}
+
+/* The charset label is passed over where UTF-8 is forced; a number has a name. */
+static void options_and_names(void)
+{
+    static const char header[] = "Content-Type: text/plain; charset=latin1\n";
+    uint8_t file[28 + 16 + 1 + sizeof header];
+    gr_record r;
+    gr_options o = {NULL, GR_SHIPPED, 0};
+    memcpy(file, g_bytes, 44);
+    file[28] = 0;                          /* the id of entry 0 is empty .. */
+    file[36] = (uint8_t)(sizeof header - 1); /* .. so its translation is the header */
+    file[40] = 45;
+    file[44] = 0;
+    memcpy(file + 45, header, sizeof header);
+    CHECK(gr_load(file, sizeof file, &o, &r) == GR_UNKNOWN_ENCODING);
+    o.utf8 = 1;
+    CHECK(gr_load(file, sizeof file, &o, &r) == GR_OK);
+    CHECK(strcmp(gr_error_name(GR_UNKNOWN_ENCODING), "unknown encoding specified") == 0);
+    CHECK(strcmp(gr_error_name(9), "no such number") == 0);
+}
+
+/* A rule of 512 bytes has at most 512 nodes; one of 513 is too long. */
+static void longest_rules(void)
+{
+    uint8_t *g = copy(50);
+    gr_record r;
+    char rule[514];
+    memset(rule, '!', 512);
+    rule[511] = 'n';
+    rule[512] = 0;
+    CHECK(gr_load(g, 50, with(rule, GR_SHIPPED), &r) == GR_OK && r.head.nodes == 512 && gr_resolve(&r, 7).form == 0);
+    CHECK(gr_load(g, 50, with(rule, GR_STANDARD), &r) == GR_OK && r.head.nodes == 512 && gr_resolve(&r, 0).form == 1);
+    memset(rule, '!', 513);
+    rule[512] = 'n';
+    rule[513] = 0;
+    CHECK(gr_load(g, 50, with(rule, GR_SHIPPED), &r) == GR_RULE_TOO_LONG);
+    CHECK(gr_load(g, 50, with(rule, GR_STANDARD), &r) == GR_RULE_TOO_LONG);
     free(g);
 }
 
 int main(void)
 {
+    nulls();
+    options_and_names();
+    longest_rules();
     loads_and_refusals();
     lookups();
     altered_records();

@@ -16,11 +16,11 @@ fn operands(r: &Record, p: usize) -> &[u16] {
 }
 
 fn is_tree(r: &Record) -> bool {
-    if r.nodes > 512 || r.root >= r.nodes || r.codes[..r.nodes].iter().any(|&code| code > 12) {
+    if r.head.nodes > 512 || r.head.root >= r.head.nodes || r.codes[..r.head.nodes].iter().any(|&code| code > 12) {
         return false;
     }
     let mut taken: Vec<u16> = Vec::new();
-    for p in 0..r.nodes {
+    for p in 0..r.head.nodes {
         if operands(r, p).iter().any(|&q| q as usize >= p) {
             return false;
         }
@@ -61,12 +61,17 @@ fn string(file: &[u8], big: bool, table: usize, i: usize) -> Option<(usize, &[u8
     file.get(start..start + len + 1).map(|string| (start, string))
 }
 
+// A word of a file has 32 bits: of a larger number in a record the low 32 count.
+fn low(x: usize) -> usize {
+    x % (1 << 32)
+}
+
 // The key of entry i, and its translation with its place.
 fn entry<'a>(file: &'a [u8], r: &Record, i: usize) -> Option<(&'a [u8], usize, &'a [u8])> {
-    let (_, original) = string(file, r.tables.big != 0, r.tables.originals, i)?;
+    let (_, original) = string(file, r.head.big != 0, low(r.head.originals), i)?;
     let id = original.iter().position(|&b| b == 4).map_or(0, |four| four + 1);
     let end = id + original[id..].iter().position(|&b| b == 0)?;
-    let (start, translation) = string(file, r.tables.big != 0, r.tables.translations, i)?;
+    let (start, translation) = string(file, r.head.big != 0, low(r.head.translations), i)?;
     Some((&original[..end], start, &translation[..translation.len() - 1]))
 }
 
@@ -74,18 +79,18 @@ fn entry<'a>(file: &'a [u8], r: &Record, i: usize) -> Option<(&'a [u8], usize, &
 fn answer(file: &[u8], r: &Record, key: &[u8], n: Option<u64>) -> Answer {
     let which = if n.map_or(true, |n| n == 1) { 1 } else { 2 };
     let caller = |number| Answer { number, which, entry: 0, form: 0, start: 0, len: 0 };
-    if file.len() != r.tables.length || n.is_some() && !is_tree(r) {
+    if file.len() != r.head.length || n.is_some() && !is_tree(r) {
         return caller(11);
     }
     let form = match n {
         None => 0,
-        Some(n) => match r.resolve(r.root, n) {
+        Some(n) => match r.resolve(r.head.root, n) {
             None => return caller(10),
             Some(form) => form,
         },
     };
     // entries past these have no cell in the file
-    let most = r.tables.count.min(file.len() / 8 + 1);
+    let most = low(r.head.count).min(file.len() / 8 + 1);
     let found = (0..most).rev().find_map(|i| entry(file, r, i).filter(|found| found.0 == key).map(|found| (i, found)));
     let Some((i, (_, start, translation))) = found else { return caller(0) };
     let mut at = start;
@@ -101,31 +106,31 @@ fn answer(file: &[u8], r: &Record, key: &[u8], n: Option<u64>) -> Answer {
 // A few nodes made anew: any codes and places, near trees for the most part.
 fn alter_rule(rng: &mut Rng, r: &mut Record) {
     if rng.one_in(3) {
-        r.nodes = 1 + rng.below(9);
-        for p in 0..r.nodes {
+        r.head.nodes = 1 + rng.below(9);
+        for p in 0..r.head.nodes {
             r.codes[p] = if p < 2 || rng.one_in(3) { rng.below(2) as u8 } else { rng.below(13) as u8 };
             r.values[p] = *rng.pick(&[0, 1, 2, 3, 10, u64::MAX]);
             for j in 0..3 {
                 r.places[3 * p + j] = if p == 0 { 0 } else { rng.below(p) as u16 };
             }
         }
-        r.root = if rng.one_in(3) { rng.below(r.nodes) } else { r.nodes - 1 };
+        r.head.root = if rng.one_in(3) { rng.below(r.head.nodes) } else { r.head.nodes - 1 };
     }
     for _ in 0..rng.below(3) {
-        let p = rng.below(r.nodes.min(512) + 1).min(511);
+        let p = rng.below(r.head.nodes.min(512) + 1).min(511);
         match rng.below(6) {
             0 => r.codes[p] = *rng.pick(&[0, 1, 2, 3, 4, 12, 13, 255]),
             1 => r.places[3 * p + rng.below(3)] = *rng.pick(&[0, 1, p as u16, (p + 1) as u16, 511, 512, 65535]),
             2 => r.places[3 * p + rng.below(3)] = rng.below(p + 1) as u16,
             3 => r.values[p] = rng.next(),
-            4 => r.nodes = *rng.pick(&[0, 1, p, p + 1, 511, 512, 513, usize::MAX]),
-            _ => r.root = *rng.pick(&[0, p, p + 1, 511, 512, usize::MAX]),
+            4 => r.head.nodes = *rng.pick(&[0, 1, p, p + 1, 511, 512, 513, usize::MAX]),
+            _ => r.head.root = *rng.pick(&[0, p, p + 1, 511, 512, usize::MAX]),
         }
     }
 }
 
 fn alter_tables(rng: &mut Rng, r: &mut Record, size: usize) {
-    let t = &mut r.tables;
+    let t = &mut r.head;
     match rng.below(8) {
         0 => t.count = *rng.pick(&[0, 1, 2, size / 8, size / 8 + 1, u32::MAX as usize, usize::MAX]),
         1 => t.originals = *rng.pick(&[0, t.translations, t.originals + 8, size, size + 1, usize::MAX - 7, usize::MAX]),
@@ -147,19 +152,19 @@ impl Oracle {
         let mut record = *loaded.catalog;
         if loaded.number != 0 {
             // no load made it, so let it be near this file
-            record.tables.length = bytes.len();
-            record.tables.count = rng.below(4);
-            record.tables.originals = 28;
-            record.tables.translations = 28 + 8 * rng.below(4);
+            record.head.length = bytes.len();
+            record.head.count = rng.below(4);
+            record.head.originals = 28;
+            record.head.translations = 28 + 8 * rng.below(4);
         }
         alter_rule(rng, &mut record);
         alter_tables(rng, &mut record, bytes.len());
         let ours = Ours { number: 0, catalog: self.lent.put_record(&record) };
         self.stats.cases += 1;
-        let told = |what: String| Err(format!("{what}\n  file {}\n  tables {:?}", hex(&bytes), record.tables));
+        let told = |what: String| Err(format!("{what}\n  file {}\n  tables {:?}", hex(&bytes), record.head));
 
         let tree = is_tree(&record);
-        let rated = if tree { range(&record, record.root) } else { None };
+        let rated = if tree { range(&record, record.head.root) } else { None };
         let rating = ours.rating();
         let wanted = rated.map_or((0, 0, 0), |(lowest, highest)| (1, lowest, highest));
         if (rating.number, (rating.rated, rating.lowest, rating.highest)) != (if tree { 0 } else { 11 }, wanted) {
@@ -174,7 +179,7 @@ impl Oracle {
         }
         self.stats.numbers[if tree { rated.map_or(10, |_| 0) } else { 11 }] += 1;
         let mut keys: Vec<Vec<u8>> = vec![b"".to_vec(), b"a".to_vec()];
-        let most = record.tables.count.min(bytes.len() / 8 + 1);
+        let most = low(record.head.count).min(bytes.len() / 8 + 1);
         for i in 0..most.min(6) {
             if let Some((key, _, _)) = entry(&bytes, &record, i) {
                 keys.push(key.to_vec());
@@ -182,9 +187,9 @@ impl Oracle {
         }
         for _ in 0..4 {
             let n = *rng.pick(&make::COUNTS);
-            let value = if tree { record.resolve(record.root, n) } else { None };
+            let value = if tree { record.resolve(record.head.root, n) } else { None };
             let wanted = (if !tree { 11 } else if value.is_none() { 10 } else { 0 }, value.unwrap_or(0));
-            let form = ours.evaluate(n);
+            let form = ours.resolve_at(n);
             self.stats.values += 1;
             if (form.number, form.form) != wanted {
                 return told(format!("value at {n}: {form:?}, by the model {wanted:?}"));

@@ -1,7 +1,7 @@
 // One input given to both, and the answers held together. What differs is explained by a rule of document 01's domain, or it is a
 // difference; a difference is made smaller as long as it stays one.
 use crate::make::{self, Entry, COUNTS};
-use crate::rattle::{empty, Answer, Lent, Ours, Record};
+use crate::rattle::{cost, empty, Answer, Lent, Ours, Record};
 use crate::rng::Rng;
 use gettext::{Catalog, Error, ParseOptions};
 use std::cell::{Cell, RefCell};
@@ -167,6 +167,20 @@ fn order(file: &[u8]) -> Option<bool> {
     [false, true].into_iter().find(|&big| file.len() >= 28 && file[..4] == make::magic(big))
 }
 
+// What a load costs: the lengths that the tables state, where the head is one and as far as a cell lies in the file.
+fn cost_of(file: &[u8]) -> u64 {
+    let Some(big) = order(file) else { return 0 };
+    let tables = [12, 16].map(|at| make::word_at(file, big, at) as usize);
+    if tables.iter().any(|&table| table > file.len()) {
+        return 0;
+    }
+    let stated = |table: usize| {
+        let cells = file[table..].chunks_exact(8).take(count(file, big));
+        cells.map(|cell| u128::from(make::word_at(cell, big, 0))).sum::<u128>()
+    };
+    tables.into_iter().map(stated).sum::<u128>().min(u128::from(u64::MAX)) as u64
+}
+
 // The key of entry i, by the oracle's own reading of the file.
 pub fn key(file: &[u8], big: bool, i: usize) -> Option<&[u8]> {
     let original = string(file, big, word_in(file, big, 12)?, i, 1)?;
@@ -279,7 +293,7 @@ pub enum Depth {
 
 impl Oracle {
     pub fn new() -> Oracle {
-        Oracle { lent: Lent::new(), empty: empty(), stats: Stats::default(), buffer: Vec::new(), tree: String::new() }
+        Oracle { lent: Lent::new(), empty: *empty(), stats: Stats::default(), buffer: Vec::new(), tree: String::new() }
     }
 
     fn explained(&mut self, kind: String, file: &[u8]) {
@@ -301,11 +315,14 @@ impl Oracle {
         let at_start = rng.one_in(4);
         let file = self.lent.file.put(bytes, at_start);
         let rule = forced.map(|rule| self.lent.rule.put(rule, at_start));
+        if cost(file) != cost_of(bytes) {
+            return Err(format!("cost {}, the tables state {}", cost(file), cost_of(bytes)));
+        }
         let ours = self.lent.load(file, rule, false, utf8);
         let theirs = theirs(twin, forced.is_some());
         match &theirs {
             Theirs::Loads(catalog) if ours.number == 0 => {
-                let t = ours.catalog.tables;
+                let t = ours.catalog.head;
                 let big = order(bytes).ok_or("loaded without a magic")?;
                 let fields = [t.length, t.big, t.count, t.originals, t.translations];
                 let wanted = [
@@ -478,7 +495,7 @@ impl Oracle {
             let answer = ours.ngettext(file, id, n);
             let text = quietly(|| theirs.ngettext(id_text, plural_text, n));
             self.stats.lookups += 1;
-            let form = Some(ours.evaluate(n)).filter(|form| form.number == 0).map(|form| form.form);
+            let form = Some(ours.resolve_at(n)).filter(|form| form.number == 0).map(|form| form.form);
             if !same(texts, id, plural, Some(n), answer, text) || !placed(file, key, form, answer) {
                 return Err(told("ngettext", b"", Some(n), answer, text));
             }
@@ -505,7 +522,7 @@ impl Oracle {
                 let answer = ours.npgettext(file, context, id, n);
                 let text = quietly(|| theirs.npgettext(context_text, id_text, plural_text, n));
                 self.stats.lookups += 1;
-                let form = Some(ours.evaluate(n)).filter(|form| form.number == 0).map(|form| form.form);
+                let form = Some(ours.resolve_at(n)).filter(|form| form.number == 0).map(|form| form.form);
                 if !same(texts, id, plural, Some(n), answer, text) || !placed(file, &whole, form, answer) {
                     return Err(told("npgettext", context, Some(n), answer, text));
                 }
@@ -597,7 +614,7 @@ impl Oracle {
                 };
                 self.tree.clear();
                 self.tree.push_str("resolver: Expr(");
-                record.write_tree(record.root, &mut self.tree);
+                record.write_tree(record.head.root, &mut self.tree);
                 self.tree.push_str(") }");
                 let told = format!("{alone:?}");
                 if !told.ends_with(&self.tree) {
@@ -617,8 +634,8 @@ impl Oracle {
         let rating = ours.rating();
         for &n in counts {
             self.stats.values += 1;
-            let value = record.resolve(record.root, n);
-            let form = ours.evaluate(n);
+            let value = record.resolve(record.head.root, n);
+            let form = ours.resolve_at(n);
             let wanted = value.map_or((10, 0), |form| (0, form));
             if (form.number, form.form) != wanted {
                 return Err(format!("value at {n}: {form:?}, by the tree {value:?}"));

@@ -6,8 +6,8 @@ use std::ffi::{c_char, c_int, c_long, c_uint, c_void};
 #[allow(dead_code)]
 #[path = "../../host/rust/src/ffi.rs"]
 mod ffi;
-pub use ffi::{empty, is_utf8, Answer, Record};
-use ffi::{Fits, Form, Loaded, Rating};
+pub use ffi::{cost, empty, is_utf8, Answer, Record};
+use ffi::{Fits, Form, Rating};
 
 extern "C" {
     fn memfd_create(name: *const c_char, flags: c_uint) -> c_int;
@@ -91,12 +91,11 @@ impl Lent {
 
     // The record is written where the oracle may write, and read by lookups where nobody may.
     pub fn load<'a>(&self, file: &'a [u8], rule: Option<&'a [u8]>, standard: bool, utf8: bool) -> Ours<'a> {
-        let at = self.record.size - std::mem::size_of::<Loaded>();
+        let at = self.record.size - std::mem::size_of::<Record>();
         unsafe {
-            let out = self.record.write.add(at) as *mut Loaded;
-            out.write(ffi::load(file, rule, standard, utf8));
-            let seen = &*(self.record.read.add(at) as *const Loaded);
-            Ours { number: seen.number, catalog: &seen.catalog }
+            let out = &mut *(self.record.write.add(at) as *mut Record);
+            let number = ffi::load(file, rule, standard, utf8, out);
+            Ours { number, catalog: &*(self.record.read.add(at) as *const Record) }
         }
     }
 }
@@ -129,8 +128,8 @@ impl Ours<'_> {
         ffi::npgettext(file, self.catalog, context, id, n)
     }
 
-    pub fn evaluate(&self, n: u64) -> Form {
-        ffi::evaluate(self.catalog, n)
+    pub fn resolve_at(&self, n: u64) -> Form {
+        ffi::resolve(self.catalog, n)
     }
 
     pub fn rating(&self) -> Rating {
@@ -144,12 +143,12 @@ impl Ours<'_> {
 
 impl Record {
     pub fn same(&self, other: &Record) -> bool {
-        self.tables == other.tables && self.same_rule(other)
+        self.head == other.head && self.same_rule(other)
     }
 
     pub fn same_rule(&self, other: &Record) -> bool {
-        self.nodes == other.nodes
-            && self.root == other.root
+        self.head.nodes == other.head.nodes
+            && self.head.root == other.head.root
             && self.codes == other.codes
             && self.places == other.places
             && self.values == other.values

@@ -1,4 +1,4 @@
-// A fixed sample of answers, as the data that the Rattle program gettext_replay reads: of the crate where it has one, of document 01
+// A fixed sample of answers, as the data that the Rattle program test_replay reads: of the crate where it has one, of document 01
 // where it has none (what a panic is answered with, rules over 512 bytes, a record and bytes that do not belong together), and of this port
 // itself for the Standard reading, which oracle/standard.py holds to Python's reader of the same grammar.
 //
@@ -206,7 +206,7 @@ impl Sample {
             body[3] = ours.number as u8;
             if ours.number == 0 {
                 body.extend(FORMS_AT.map(|n| {
-                    let form = ours.evaluate(n);
+                    let form = ours.resolve_at(n);
                     if form.number == 10 {
                         255
                     } else {

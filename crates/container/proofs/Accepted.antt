@@ -1,127 +1,116 @@
--- What an accepted file is: its record's fields are words of the file, every index below the count is an entry, and its segments are
--- UTF-8. Assumes nothing.
+-- What an accepted file is: its tables are words of the file, every index below the count is an entry, and its segments are UTF-8. Assumes
+-- nothing.
 use Prim.Native.Nat.{ℕ, zero, suc, _+_, _<_, _≤_}
-use mathlib.Core.Path.{_≡_, refl}
-use mathlib.Core.Bool.{Bool, true}
+use mathlib.Core.Path.{_≡_, refl, sym, ap, _∙_}
+use mathlib.Core.Bool.{true}
 use mathlib.Core.List.{List}
 use native.Mathlib.Omega.{arith}
 use lib.ListN.{length}
 use lib.Dec.{eqb}
 use borrow.Author.Tests.{eqb-true, eqb-false}
-use Rattle.utf8.specs.Utf8.{utf8}
+use Rattle.text_utf8.specs.Utf8.{utf8}
 use Rattle.text.specs.Cut.{every}
 use Rattle.text.proofs.Tests.{by-test}
+use Rattle.refusal.specs.declared.Error.{Error}
+use Rattle.refusal.specs.declared.Outcome.the-variants as outcome
 use Rattle.rules.specs.Tree.{Tree}
-use Rattle.layout.specs.Mo.{entry, segments}
-use Rattle.layout.specs.declared.Entry.the-variants as entries
-use Rattle.messages.specs.Messages.{readAt}
-use Rattle.head.specs.Head.{headOf}
-use Rattle.container.specs.Catalog.{andThen, entryStep, entriesFrom, Answer, accepted, refused, answered, catalog, loadWith, load}
-use Rattle.container.specs.Promise.{Loads, readOutcome}
-use Rattle.messages.specs.declared.Error.{Error}
+use Rattle.rules.specs.Pool.{Pool}
+use Rattle.reading_rule.specs.Plurals.{Parse, rule, norule}
+use Rattle.container_layout.specs.Mo.{entry, segments}
+use Rattle.container_layout.specs.declared.Tables.{Tables}
+use Rattle.container_layout.specs.declared.Entry.the-variants as entries
+use Rattle.container_messages.specs.Messages.{readAt}
+use Rattle.container_messages.specs.declared.Read.{Read}
+use Rattle.container_messages.specs.declared.Read.the-variants as read
+use Rattle.container_messages.proofs.Entries.{IsEntry, read-entry, read-right}
+use Rattle.container_head.specs.Head.{headOf}
+use Rattle.container_head.specs.declared.Head.{Head}
+use Rattle.container_head.specs.declared.Head.the-variants as head
+use Rattle.container_head.proofs.Words.{Words, head-words}
+use Rattle.container_rule.specs.Rule.{forcedRule}
+use Rattle.container.specs.Catalog.{andThen, entryStep, entriesFrom, Answer, accepted, refused, answered, catalog, loadWith, load, treeIn}
+use Rattle.container.specs.Promise.{Loads}
 use Rattle.container.specs.declared.Options.{Options}
-use Rattle.messages.specs.declared.Outcome.the-variants as outcome
-use Rattle.container.specs.declared.Loaded as loaded
-use Rattle.head.specs.declared.Head.{Head}
-use Rattle.head.specs.declared.Head.the-variants as head
-use Rattle.messages.specs.declared.Read.{Read}
-use Rattle.messages.specs.declared.Read.the-variants as read
-use Rattle.messages.proofs.Entries.{IsEntry, read-entry, read-right}
-use Rattle.head.proofs.Words.{Words, head-words}
-use Rattle.choice.specs.Choice.{Step, next, stop, forcedRule}
+use Rattle.container.specs.declared.Loading.{Loading}
 
-not-refused : (q : Read) → readOutcome q ≡ outcome.Loaded → (x : Error) → q ≡ read.Refused x → ⊥
-not-refused (read.Refused y) e x f = let z : _≡_ {A = ℕ} 0 1 = cc in omega arith
-not-refused read.Message e x f = let z : _≡_ {A = ℕ} 0 1 = cc in omega arith
-not-refused (read.Header a l) e x f = let z : _≡_ {A = ℕ} 0 1 = cc in omega arith
+-- a load that says so was accepted
+pub loaded-accepted : (a : Answer) {Q : Pool} {r : Loading} → Loads a Q r → r .outcome ≡ outcome.Loaded → a ≡ accepted (r .tables) (treeIn a)
+loaded-accepted (accepted t u) h e = ap (λ (x : Tables). accepted x u) (sym (h .tables-are))
+loaded-accepted (refused x) h e = absurd (let p = h .outcome-is in let z : _≡_ {A = ℕ} 0 1 = cc in omega arith)
+
+-- an entry that is not refused
+abbrev Passes : Read → Type 0
+Passes q = (x : Error) → q ≡ read.Refused x → ⊥
 
 -- stages that end well, each did
-record Through (q : Read) (f : Tree → Step) (u : Tree) : Type 0 where
-  loaded : readOutcome q ≡ outcome.Loaded
+record Through (q : Read) (f : Tree → Parse) (u : Tree) : Type 0 where
+  passes : Passes q
   from : Tree
-  rest : f from ≡ next u
+  rest : f from ≡ rule u
 
-module _ (o : Options) (s : List ℕ) where
-  passed : (t : Tree) (q : Read) (a : Step) → entryStep o s t q ≡ a → (f : Tree → Step) (u : Tree) → andThen a f ≡ next u → Through q f u
+module _ (o : Options) (s : List ℕ) (t : Tables) where
+  passed : (r : Tree) (q : Read) (a : Parse) → entryStep o s r q ≡ a → (f : Tree → Parse) (u : Tree) → andThen a f ≡ rule u → Through q f u
   unfolding entryStep
-  passed t (read.Refused x) (next v) e f u g = absurd (let z : _≡_ {A = ℕ} 0 1 = cc in omega arith)
-  passed t read.Message (next v) e f u g = record { loaded = refl; from = v; rest = g }
-  passed t (read.Header a l) (next v) e f u g = record { loaded = refl; from = v; rest = g }
-  passed t q (stop x) e f u g = absurd (let z : _≡_ {A = ℕ} 0 1 = cc in omega arith)
+  passed r (read.Refused x) (rule v) e f u g = absurd (let z : _≡_ {A = ℕ} 0 1 = cc in omega arith)
+  passed r read.Message (rule v) e f u g = record { passes = λ x p. let z : _≡_ {A = ℕ} 0 1 = cc in omega arith; from = v; rest = g }
+  passed r (read.Header a l) (rule v) e f u g = record { passes = λ x p. let z : _≡_ {A = ℕ} 0 1 = cc in omega arith; from = v; rest = g }
+  passed r q (norule x) e f u g = absurd (let z : _≡_ {A = ℕ} 0 1 = cc in omega arith)
 
-  all-passed : (b : Bool) (x y k j : ℕ) (t u : Tree) → entriesFrom o s b x y k j t ≡ next u → (i : ℕ) → j ≤ i → i < j + k
-      → readOutcome (readAt b s x y i) ≡ outcome.Loaded
+  all-passed : (k j : ℕ) (r u : Tree) → entriesFrom o s t k j r ≡ rule u → (i : ℕ) → j ≤ i → i < j + k → Passes (readAt s t i)
   unfolding entriesFrom
-  all-passed b x y zero j t u e i h l = absurd (omega arith)
-  all-passed b x y (suc k) j t u e i h l =
-      let p = passed t (readAt b s x y j) (entryStep o s t (readAt b s x y j)) refl (entriesFrom o s b x y k (suc j)) u e in
-      by-test (readOutcome (readAt b s x y i) ≡ outcome.Loaded) (eqb i j)
-      (λ q. rw (eqb-true i j q) (p .loaded))
-      (λ q. all-passed b x y k (suc j) (p .from) u (p .rest) i (omega (arith, eqb-false i j q)) (omega arith))
+  all-passed zero j r u e i h l = absurd (omega arith)
+  all-passed (suc k) j r u e i h l =
+      let p = passed r (readAt s t j) (entryStep o s r (readAt s t j)) refl (entriesFrom o s t k (suc j)) u e in
+      by-test (Passes (readAt s t i)) (eqb i j)
+      (λ q. rw (eqb-true i j q) (p .passes))
+      (λ q. all-passed k (suc j) (p .from) u (p .rest) i (omega (arith, eqb-false i j q)) (omega arith))
 
--- where an accepted answer comes from
-pub record Whole (o : Options) (s : List ℕ) (n : ℕ) (b : Bool) (k x y : ℕ) (t : Tree) : Type 0 where
-  pub length-is : n ≡ length s
-  pub head-is : headOf s ≡ head.Fields b k x y
+-- where an accepted answer comes from: the head, the rule before the entries, and the entries
+pub record Whole (o : Options) (f s : List ℕ) (t : Tables) (r : Tree) : Type 0 where
+  pub head-is : headOf s ≡ head.Fields t
   pub before : Tree
-  pub entries-are : entriesFrom o s b x y k 0 before ≡ next t
+  pub forced-is : forcedRule (o .forced) (o .reading) f ≡ rule before
+  pub entries-are : entriesFrom o s t (t .count) 0 before ≡ rule r
 
-module _ (o : Options) (s : List ℕ) {n : ℕ} {b : Bool} {k x y : ℕ} {t : Tree} where
-  from-step : (w : Tree) (c : Bool) (m v z : ℕ) → headOf s ≡ head.Fields c m v z → (a : Step) → entriesFrom o s c v z m 0 w ≡ a
-      → answered (length s) c m v z a ≡ accepted n b k x y t → Whole o s n b k x y t
-  from-step w c m v z h (next u) e g =
-      let p : n ≡ length s = cc in
-      let q1 : c ≡ b = cc in
-      let q2 : m ≡ k = cc in
-      let q3 : v ≡ x = cc in
-      let q4 : z ≡ y = cc in
-      let q5 : u ≡ t = cc in
-      record {
-        length-is = p;
-        head-is = rw (← q1, ← q2, ← q3, ← q4) h;
-        before = w;
-        entries-are = rw (← q1, ← q2, ← q3, ← q4, ← q5) e;
-      }
-  from-step w c m v z h (stop e) f g = absurd (let z : _≡_ {A = ℕ} 0 1 = cc in omega arith)
+module _ (o : Options) (f s : List ℕ) {t : Tables} {r : Tree} where
+  from-step : (w : Tree) → forcedRule (o .forced) (o .reading) f ≡ rule w → (u : Tables) → headOf s ≡ head.Fields u → (a : Parse) → entriesFrom o s u (u .count) 0 w ≡ a
+      → answered u a ≡ accepted t r → Whole o f s t r
+  from-step w p u h (rule v) e g =
+      let q : u ≡ t = cc in
+      let z : v ≡ r = cc in
+      record { head-is = rw (← q) h; before = w; forced-is = p; entries-are = rw (← q, ← z) e }
+  from-step w p u h (norule x) e g = absurd (let z : _≡_ {A = ℕ} 0 1 = cc in omega arith)
 
-  from-head : (w : Tree) (h : Head) → headOf s ≡ h → catalog o s w h ≡ accepted n b k x y t → Whole o s n b k x y t
-  from-head w (head.Fields c m v z) e g = from-step w c m v z e (entriesFrom o s c v z m 0 w) refl g
-  from-head w (head.Refused e) f g = absurd (let z : _≡_ {A = ℕ} 0 1 = cc in omega arith)
+  from-head : (w : Tree) → forcedRule (o .forced) (o .reading) f ≡ rule w → (h : Head) → headOf s ≡ h → catalog o s w h ≡ accepted t r → Whole o f s t r
+  from-head w p (head.Fields u) e g = from-step w p u e (entriesFrom o s u (u .count) 0 w) refl g
+  from-head w p (head.Refused x) e g = absurd (let z : _≡_ {A = ℕ} 0 1 = cc in omega arith)
 
-  from-rule : (a : Step) → loadWith o s a ≡ accepted n b k x y t → Whole o s n b k x y t
-  from-rule (next w) g = from-head w (headOf s) refl g
-  from-rule (stop e) g = absurd (let z : _≡_ {A = ℕ} 0 1 = cc in omega arith)
+  from-rule : (a : Parse) → forcedRule (o .forced) (o .reading) f ≡ a → loadWith o s a ≡ accepted t r → Whole o f s t r
+  from-rule (rule w) p g = from-head w p (headOf s) refl g
+  from-rule (norule x) p g = absurd (let z : _≡_ {A = ℕ} 0 1 = cc in omega arith)
 
-  pub accepted-whole : (f : List ℕ) → load o f s ≡ accepted n b k x y t → Whole o s n b k x y t
+  pub accepted-whole : load o f s ≡ accepted t r → Whole o f s t r
   unfolding load
-  accepted-whole f e = from-rule (forcedRule (o .forced) (o .reading) f) e
+  accepted-whole e = from-rule (forcedRule (o .forced) (o .reading) f) refl e
 
--- in an accepted file every index below the count is an entry, for the record that the load returned
-pub every-entry : (o : Options) (f s : List ℕ) (r : loaded.Loaded) → Loads (load o f s) r → r .outcome ≡ outcome.Loaded → (i : ℕ) → i < r .record .count
-    → IsEntry (entry (r .record .big) s (r .record .originals) (r .record .translations) i)
-every-entry o f s r h e i l = by-answer (load o f s) refl h
-  where
-    by-answer : (a : Answer) → load o f s ≡ a → Loads a r → IsEntry (entry (r .record .big) s (r .record .originals) (r .record .translations) i)
-    by-answer (accepted n b k x y t) q g =
-        let w = accepted-whole o s f q in
-        let d = g .keeps in
-        rw (d .order-is, d .originals-at, d .translations-at)
-        (read-entry b s x y i (not-refused _ (all-passed o s b x y k 0 (w .before) t (w .entries-are) i (omega arith) (omega (arith, d .count-is)))))
-    by-answer (refused x) q g = absurd (let p = g .outcome-is in let z : _≡_ {A = ℕ} 0 1 = cc in omega arith)
+-- of an accepted file
+module _ (o : Options) (f s : List ℕ) {t : Tables} {r : Tree} (e : load o f s ≡ accepted t r) where
+  -- the tables are words of the file, in its byte order
+  pub accepted-words : Words s t
+  accepted-words = head-words s (accepted-whole o f s e .head-is)
 
--- and every segment of its translation is UTF-8
-pub every-right : (o : Options) (f s : List ℕ) (r : loaded.Loaded) → Loads (load o f s) r → r .outcome ≡ outcome.Loaded → (i : ℕ) → i < r .record .count
-    → {a n c m : ℕ} → entry (r .record .big) s (r .record .originals) (r .record .translations) i ≡ entries.At a n c m → every utf8 (segments s c m) ≡ true
-every-right o f s r h e i l {a} {n} {c} {m} g = by-answer (load o f s) refl h
-  where
-    by-answer : (w : Answer) → load o f s ≡ w → Loads w r → every utf8 (segments s c m) ≡ true
-    by-answer (accepted z b k x y t) q p =
-        let w = accepted-whole o s f q in
-        let d = p .keeps in
-        read-right b s x y i (not-refused _ (all-passed o s b x y k 0 (w .before) t (w .entries-are) i (omega arith) (omega (arith, d .count-is))))
-        (rw (d .order-is, d .originals-at, d .translations-at) at g)
-    by-answer (refused x) q p = absurd (let u = p .outcome-is in let z : _≡_ {A = ℕ} 0 1 = cc in omega arith)
+  pub accepted-length : t .length ≡ length s
+  accepted-length = ap (λ (x : Tables). x .length) (accepted-words .is)
 
--- the count is the word at 8, in the file's byte order, and the tables are the words at 12 and 16
-pub accepted-words : (o : Options) (f s : List ℕ) {n : ℕ} {b : Bool} {k x y : ℕ} {t : Tree} → load o f s ≡ accepted n b k x y t → Words s b k x y
-accepted-words o f s e = head-words s (accepted-whole o s f e .head-is)
+  pub every-passed : (i : ℕ) → i < t .count → Passes (readAt s t i)
+  every-passed i l =
+      let w = accepted-whole o f s e in
+      all-passed o s t (t .count) 0 (w .before) r (w .entries-are) i (omega arith) (omega arith)
+
+  -- every index below the count is an entry
+  pub every-entry : (i : ℕ) → i < t .count → IsEntry (entry s t i)
+  every-entry i l = read-entry s t i (every-passed i l)
+
+  -- and every segment of its translation is UTF-8
+  pub every-right : (i : ℕ) → i < t .count → {a n c m : ℕ} → entry s t i ≡ entries.At a n c m → every utf8 (segments s c m) ≡ true
+  every-right i l g = read-right s t i (every-passed i l) g

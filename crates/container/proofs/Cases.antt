@@ -3,20 +3,23 @@ use Prim.Native.Nat.{ℕ}
 use mathlib.Core.Path.{_≡_, refl}
 use mathlib.Core.Bool.{false}
 use mathlib.Core.List.{List, [], _∷_, _++_, map}
-use lib.ListN.{take, set}
-use Rattle.utf8.specs.Utf8.{utf8, rest}
-use Rattle.text.specs.Trim.{front, trim, trimStart, trimEnd}
-use Rattle.text.specs.Bytes.{same, begins, first}
+use lib.ListN.{take, set, replicate}
+use Rattle.text_utf8.specs.Utf8.{utf8, rest}
+use Rattle.text.specs.Bytes.{front, same, begins, first}
+use Rattle.text_trim.specs.Trim.{trim, trimStart, trimEnd}
 use Rattle.text.specs.Cut.{cut, every}
-use Rattle.fields.specs.Fields.{named, lastOf}
+use Rattle.header_fields.specs.Fields.{named, lastOf}
 use Rattle.header.specs.Header.{charset, plural, metadata, utf8Label}
-use Rattle.plurals.specs.declared.Reading.the-variants.{Standard}
-use Rattle.layout.specs.Mo.{word, string, contextEnd, idStart, idEnd, context, id, entry, pieceAt, segment}
-use Rattle.layout.specs.declared.Stretch.the-variants as stretch
-use Rattle.layout.specs.declared.Entry.the-variants as entries
-use Rattle.messages.specs.Messages.{numberOf, originalOf, readAt}
-use Rattle.head.specs.Head.{orderOf, headOf}
+use Rattle.reading_rule.specs.declared.Reading.the-variants.{Standard}
+use Rattle.container_layout.specs.Mo.{word, string, contextEnd, idStart, idEnd, context, id, entry, pieceAt, segment}
+use Rattle.container_layout.specs.declared.Tables.{Tables}
+use Rattle.container_layout.specs.declared.Stretch.the-variants as stretch
+use Rattle.container_layout.specs.declared.Entry.the-variants as entries
+use Rattle.refusal.specs.Numbers.{numberOf}
+use Rattle.container_messages.specs.Messages.{originalOf, readAt}
+use Rattle.container_head.specs.Head.{orderOf, headOf}
 use Rattle.container.specs.Catalog.{header, entryStep, entriesFrom, Answer, accepted, refused, load}
+use Rattle.container_rule.specs.Rule.{ruleAt}
 use Rattle.container.specs.declared.Options.{Options}
 
 -- the file F of 48 bytes, and G
@@ -30,7 +33,7 @@ fileG = set fileF 36 3 ++ 0x63 ∷ 0 ∷ []
 
 -- document 01's number, 0 for a file that is accepted, and the count
 abbrev pub seen : Answer → ℕ × ℕ
-seen (accepted n b k x y t) = (0, k)
+seen (accepted t r) = (0, t .count)
 seen (refused e) = (numberOf e, 0)
 
 -- no rule is forced, nor UTF-8
@@ -63,6 +66,8 @@ rows =
     ∷ row fileG 0 1
     -- no entry, and the tables at the end, and past it
     ∷ row (take 28 (set (set (set fileF 8 0) 12 28) 16 28)) 0 0
+    -- the magic in the other byte order
+    ∷ row (0x95 ∷ 0x04 ∷ 0x12 ∷ 0xde ∷ replicate 24 0) 0 0
     ∷ row (take 28 (set (set (set fileF 8 0) 12 29) 16 28)) 1 0
     ∷ row (take 28 (set (set (set fileF 8 0) 12 28) 16 29)) 1 0
     ∷ []
@@ -74,12 +79,15 @@ abbrev pub computed : Row → ℕ × ℕ
 computed r = seen (load plain [] (r .file))
 
 pub rows-hold : map computed rows ≡ map said rows
-unfolding load entriesFrom entryStep header readAt originalOf headOf orderOf word string contextEnd idStart idEnd context id utf8 rest front trim trimStart trimEnd
+unfolding load entriesFrom entryStep header ruleAt readAt originalOf headOf orderOf word string contextEnd idStart idEnd context id utf8 rest front trim trimStart trimEnd
     same begins first cut every named lastOf charset plural metadata utf8Label
 rows-hold = refl
 
 -- where entry 0 lies in F and in G, and its segments
-pub places-hold : (entry false fileF 28 36 0 ≡ entries.At 44 1 46 1) × (entry false fileG 28 36 0 ≡ entries.At 44 1 46 3)
+abbrev tablesF : ℕ → Tables
+tablesF n = record { length = n; big = false; count = 1; originals = 28; translations = 36 }
+
+pub places-hold : (entry fileF (tablesF 48) 0 ≡ entries.At 44 1 46 1) × (entry fileG (tablesF 50) 0 ≡ entries.At 44 1 46 3)
     × (segment fileF 46 1 0 ≡ stretch.At 46 1) × (segment fileF 46 1 1 ≡ stretch.Outside)
     × (segment fileG 46 3 0 ≡ stretch.At 46 1) × (segment fileG 46 3 1 ≡ stretch.At 48 1) × (segment fileG 46 3 18446744073709551616 ≡ stretch.Outside)
 unfolding entry word string idStart idEnd front segment pieceAt cut

@@ -1,5 +1,7 @@
 pub mod Rest
-pub mod Loading
+pub mod Stages
 pub mod Accepted
+pub mod Exactly
+pub mod Few
 mod Cases
 pub mod Unique

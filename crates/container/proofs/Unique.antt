@@ -1,72 +1,72 @@
--- Each public function's promise fixes its result: any two results that it allows on the same input are equal, refusals and every field
--- of the record counted in. `Post` is the promise as the check reads it from the source. Assumes nothing.
+-- Each public function's promise fixes its result: any two results that it allows on the same input are equal, refusals, every field of a
+-- record and what is left in lent arrays counted in. `Post` is the promise as the check reads it from the source. Assumes nothing.
 use Prim.Native.Nat.{ℕ}
 use mathlib.Core.Path.{_≡_, sym, ap₂, _∙_}
-use mathlib.Core.Bool.{Bool}
+use contract.Lifetimes.{Lfts}
+use denote.Ref.{now}
+use denote.Triple.Clauses.{AtExit}
+use borrow.Fn.Kinds.{endedOf}
+use Rattle.promise.proofs.One.{One, OneLeft}
+use Rattle.refusal.specs.declared.Outcome.{Outcome}
 use Rattle.rules.specs.Tree.{Tree}
-use Rattle.rules.specs.Pool.{Pool}
-use Rattle.promise.proofs.One.{One}
-use Rattle.container.specs.Catalog.{Answer, accepted, refused}
-use Rattle.container.specs.Promise.{Holds, Keeps, Loads}
-use Rattle.messages.specs.declared.Outcome.{Outcome}
+use Rattle.rules.specs.Pool.{Pool, pool}
+use Rattle.container_layout.specs.declared.Tables.{Tables}
+use Rattle.container.specs.Catalog.{Answer}
+use Rattle.container.specs.Promise.{Holds, Loads, Opens}
 use Rattle.container.specs.declared.Record.{Record}
+use Rattle.container.specs.declared.Loading.{Loading}
 use Rattle.container.specs.declared.Loaded as loaded
 use Rattle.container.proofs.empty.Reads as empty
 use Rattle.container.proofs.empty.Kinds as empty-kinds
+use Rattle.container.proofs.empty_into.Reads as empty-into
+use Rattle.container.proofs.empty_into.Kinds as empty-into-kinds
+use Rattle.container.proofs.load_into.Reads as load-into
+use Rattle.container.proofs.load_into.Kinds as load-into-kinds
 use Rattle.container.proofs.load.Reads as load
 use Rattle.container.proofs.load.Kinds as load-kinds
 
--- the numbers of a record, and the record of them and of the arrays
-record Numbers : Type 0 where
-  n : ℕ
-  b : Bool
-  k : ℕ
-  x : ℕ
-  y : ℕ
-  m : ℕ
-  r : ℕ
+abbrev made : Tables → Pool → ℕ → ℕ → Record
+made t P k r = record { tables = t; codes = P .codes; places = P .places; values = P .values; nodes = k; root = r }
 
-abbrev made : Numbers → Pool → Record
-made a P =
-    record {
-      length = a .n;
-      big = a .b;
-      count = a .k;
-      originals = a .x;
-      translations = a .y;
-      codes = P .codes;
-      places = P .places;
-      values = P .values;
-      nodes = a .m;
-      root = a .r;
-    }
+same : {t u : Tables} {P Q : Pool} {j k m n : ℕ} → t ≡ u → P ≡ Q → j ≡ k → m ≡ n → made t P j m ≡ made u Q k n
+same e f g h = rw (e, f, g, h)
 
-abbrev numbers : ℕ → Bool → ℕ → ℕ → ℕ → ℕ → ℕ → Numbers
-numbers n b k x y m r = record { n = n; b = b; k = k; x = x; y = y; m = m; r = r }
-
-same-numbers : {n n' k k' x x' y y' m m' r r' : ℕ} {b b' : Bool} → n ≡ n' → b ≡ b' → k ≡ k' → x ≡ x' → y ≡ y' → m ≡ m' → r ≡ r'
-    → numbers n b k x y m r ≡ numbers n' b' k' x' y' m' r'
-same-numbers p1 p2 p3 p4 p5 p6 p7 = rw (p1, p2, p3, p4, p5, p6, p7)
-
-pub holds-one : {n : ℕ} {b : Bool} {k x y : ℕ} {t : Tree} (u v : Record) → Holds n b k x y t u → Holds n b k x y t v → u ≡ v
+pub holds-one : {t : Tables} {r : Tree} (u v : Record) → Holds t r u → Holds t r v → u ≡ v
 holds-one u v p q =
-    ap₂ made
-    (same-numbers (p .size-is ∙ sym (q .size-is)) (p .order-is ∙ sym (q .order-is)) (p .count-is ∙ sym (q .count-is)) (p .originals-at ∙ sym (q .originals-at))
-    (p .translations-at ∙ sym (q .translations-at)) (p .nodes-are ∙ sym (q .nodes-are)) (p .root-is ∙ sym (q .root-is)))
-    (p .rule-is ∙ sym (q .rule-is))
+    same (p .tables-are ∙ sym (q .tables-are)) (p .rule-is ∙ sym (q .rule-is)) (p .nodes-are ∙ sym (q .nodes-are)) (p .root-is ∙ sym (q .root-is))
 
 pub empty-one : One 0 empty-kinds.ps empty-kinds.r empty.Post
 empty-one κs a u v x y p q = holds-one u v p q
 
-keeps-one : (a : Answer) (u v : Record) → Keeps a u → Keeps a v → u ≡ v
-keeps-one (accepted n b k x y t) u v p q = holds-one u v p q
-keeps-one (refused e) u v p q = holds-one u v p q
+abbrev told : Outcome → Tables → ℕ → Loading
+told o t k = record { outcome = o; tables = t; nodes = k }
+
+same-loading : {o p : Outcome} {t u : Tables} {j k : ℕ} → o ≡ p → t ≡ u → j ≡ k → told o t j ≡ told p u k
+same-loading e f g = rw (e, f, g)
+
+abbrev empty-left : (κs : Lfts 3) → AtExit (endedOf 3 empty-into-kinds.ps empty-into-kinds.r) κs → Pool
+empty-left κs x = pool (now (x .1 .0)) (now (x .1 .1 .0)) (now (x .1 .1 .1 .0))
+
+pub empty-into-one : OneLeft 3 empty-into-kinds.ps empty-into-kinds.r empty-into.Post empty-left
+empty-into-one κs a u v x y p q = (
+  same-loading (p .outcome-is ∙ sym (q .outcome-is)) (p .tables-are ∙ sym (q .tables-are)) (p .nodes-are ∙ sym (q .nodes-are)),
+  p .rule-is ∙ sym (q .rule-is),
+)
+
+pub loads-one : (a : Answer) {P Q : Pool} (u v : Loading) → Loads a P u → Loads a Q v → (u ≡ v) × (P ≡ Q)
+loads-one a u v p q = (
+  same-loading (p .outcome-is ∙ sym (q .outcome-is)) (p .tables-are ∙ sym (q .tables-are)) (p .nodes-are ∙ sym (q .nodes-are)),
+  p .rule-is ∙ sym (q .rule-is),
+)
+
+abbrev load-left : (κs : Lfts 4) → AtExit (endedOf 4 load-into-kinds.ps load-into-kinds.r) κs → Pool
+load-left κs x = pool (now (x .1 .1 .1 .0)) (now (x .1 .1 .1 .1 .0)) (now (x .1 .1 .1 .1 .1 .0))
+
+pub load-into-one : OneLeft 4 load-into-kinds.ps load-into-kinds.r load-into.Post load-left
+load-into-one κs a u v x y p q = loads-one _ u v p q
 
 abbrev beside : Outcome → Record → loaded.Loaded
 beside o r = record { outcome = o; «record» = r }
 
-pub loads-one : (a : Answer) (u v : loaded.Loaded) → Loads a u → Loads a v → u ≡ v
-loads-one a u v p q = ap₂ beside (p .outcome-is ∙ sym (q .outcome-is)) (keeps-one a (u .record) (v .record) (p .keeps) (q .keeps))
-
 pub load-one : One 1 load-kinds.ps load-kinds.r load.Post
-load-one κs a u v x y p q = loads-one _ u v p q
+load-one κs a u v x y p q = ap₂ beside (p .outcome-is ∙ sym (q .outcome-is)) (holds-one (u .record) (v .record) (p .holds) (q .holds))

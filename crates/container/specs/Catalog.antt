@@ -1,65 +1,74 @@
 -- Loading a catalog. Document 01, "Loading, in order", 1 and 4 to 6. A stage hands on its value or the load ends with its refusal;
 -- what is handed on from stage to stage is the rule so far.
 use Prim.Native.Nat.{ℕ, zero, suc}
-use mathlib.Core.Bool.{Bool}
+use mathlib.Core.Bool.{false}
 use mathlib.Core.List.{List}
-use lib.ListN.{length}
-use Rattle.text.specs.Trim.{six}
-use Rattle.rules.specs.Tree.{Tree}
-use Rattle.header.specs.Header.{metadata}
-use Rattle.layout.specs.Mo.{segments}
-use Rattle.messages.specs.Messages.{readAt}
-use Rattle.head.specs.Head.{headOf}
-use Rattle.messages.specs.declared.Error.{Error}
+use Rattle.refusal.specs.declared.Error.{Error}
+use Rattle.rules.specs.Tree.{Tree, defaultTree}
+use Rattle.reading_rule.specs.Plurals.{Parse, rule, norule}
+use Rattle.container_layout.specs.Mo.{segments}
+use Rattle.container_layout.specs.declared.Tables.{Tables}
+use Rattle.container_messages.specs.Messages.{readAt}
+use Rattle.container_messages.specs.declared.Read.{Read}
+use Rattle.container_messages.specs.declared.Read.the-variants as read
+use Rattle.container_head.specs.Head.{headOf}
+use Rattle.container_head.specs.declared.Head.{Head}
+use Rattle.container_head.specs.declared.Head.the-variants as head
+use Rattle.container_rule.specs.Rule.{forcedRule, ruleAt, segment0, ruleIn}
 use Rattle.container.specs.declared.Options.{Options}
-use Rattle.head.specs.declared.Head.{Head}
-use Rattle.head.specs.declared.Head.the-variants as head
-use Rattle.messages.specs.declared.Read.{Read}
-use Rattle.messages.specs.declared.Read.the-variants as read
-use Rattle.first.specs.First.{headed, segment0}
-use Rattle.choice.specs.Choice.{Step, next, stop, forcedRule, ruleIn}
 
-abbrev pub andThen : Step → (Tree → Step) → Step
-andThen (next t) f = f t
-andThen (stop e) f = stop e
+abbrev pub andThen : Parse → (Tree → Parse) → Parse
+andThen (rule t) f = f t
+andThen (norule e) f = norule e
 
 -- 6. the header, and its rule
-unfoldable pub header : Options → List ℕ → Tree → Step
-header o h t = ruleIn (o .reading) h t (headed (o .forced) (o .utf8) h (metadata six h))
+unfoldable pub header : Options → List ℕ → Tree → Parse
+unfolding ruleAt
+header o h r = ruleIn (o .reading) h r (ruleAt (o .forced) (o .utf8) h)
 
 -- an entry; the header is segment 0 of its translation
-unfoldable pub entryStep : Options → List ℕ → Tree → Read → Step
+unfoldable pub entryStep : Options → List ℕ → Tree → Read → Parse
 unfolding header
-entryStep o s t (read.Refused e) = stop e
-entryStep o s t read.Message = next t
-entryStep o s t (read.Header start len) = header o (segment0 (segments s start len)) t
+entryStep o s r (read.Refused e) = norule e
+entryStep o s r read.Message = rule r
+entryStep o s r (read.Header start len) = header o (segment0 (segments s start len)) r
 
 -- k entries from index i on
-unfoldable pub entriesFrom : Options → List ℕ → Bool → ℕ → ℕ → ℕ → ℕ → Tree → Step
+unfoldable pub entriesFrom : Options → List ℕ → Tables → ℕ → ℕ → Tree → Parse
 unfolding entryStep
-entriesFrom o s big originals translations zero i t = next t
-entriesFrom o s big originals translations (suc k) i t =
-    andThen (entryStep o s t (readAt big s originals translations i)) (entriesFrom o s big originals translations k (suc i))
+entriesFrom o s t zero i r = rule r
+entriesFrom o s t (suc k) i r = andThen (entryStep o s r (readAt s t i)) (entriesFrom o s t k (suc i))
 
--- what a load answers: the file's length, its byte order, the count, the tables and the rule
+-- what a load answers: the tables and the rule
 pub data Answer : Type 0 where
-  accepted : ℕ → Bool → ℕ → ℕ → ℕ → Tree → Answer
+  accepted : Tables → Tree → Answer
   refused : Error → Answer
 
-abbrev pub answered : ℕ → Bool → ℕ → ℕ → ℕ → Step → Answer
-answered size big count originals translations (next t) = accepted size big count originals translations t
-answered size big count originals translations (stop e) = refused e
+abbrev pub answered : Tables → Parse → Answer
+answered t (rule r) = accepted t r
+answered t (norule e) = refused e
 
 abbrev pub catalog : Options → List ℕ → Tree → Head → Answer
-catalog o s t (head.Fields big count originals translations) =
-    answered (length s) big count originals translations (entriesFrom o s big originals translations count 0 t)
-catalog o s t (head.Refused e) = refused e
+catalog o s r (head.Fields t) = answered t (entriesFrom o s t (t .count) 0 r)
+catalog o s r (head.Refused e) = refused e
 
-abbrev pub loadWith : Options → List ℕ → Step → Answer
-loadWith o s (next t) = catalog o s t (headOf s)
-loadWith o s (stop e) = refused e
+abbrev pub loadWith : Options → List ℕ → Parse → Answer
+loadWith o s (rule r) = catalog o s r (headOf s)
+loadWith o s (norule e) = refused e
 
 -- the load of a file s with options, f being the text of the forced rule
 unfoldable pub load : Options → List ℕ → List ℕ → Answer
 unfolding entriesFrom
 load o f s = loadWith o s (forcedRule (o .forced) (o .reading) f)
+
+-- a refused load returns the empty catalog, whatever was forced: no entries, length 0, little endian, table offsets 0, default rule
+abbrev pub noTables : Tables
+noTables = record { length = 0; big = false; count = 0; originals = 0; translations = 0 }
+
+abbrev pub tablesIn : Answer → Tables
+tablesIn (accepted t r) = t
+tablesIn (refused e) = noTables
+
+abbrev pub treeIn : Answer → Tree
+treeIn (accepted t r) = r
+treeIn (refused e) = defaultTree

@@ -1,2 +1,4 @@
 pub mod Catalog
+pub mod Accepts
 pub mod Promise
+pub mod Private

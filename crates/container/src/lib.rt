@@ -1,14 +1,16 @@
-// Loading a catalog where it lies: a record by value, or the refusal. A port of parser.rs: `parse_catalog`. Stages answer enums; the
-// map of messages is the file itself, and the resolver is the rule's nodes in the record.
+// Loading a catalog where it lies: a record, or the refusal. A port of parser.rs: `parse_catalog`. Stages answer enums; the map of messages
+// is the file itself, and the resolver is the rule's nodes, which go into arrays that the caller lends, so that they are written once.
+use container_head::Head;
+use container_layout::Tables;
+use container_messages::Read;
+use reading_rule::Reading;
+use refusal::Outcome;
 ghost use mathlib.Core.Path.{_≡_};
 ghost use Prim.Native.Nat.{_-_, _<_};
-ghost use Rattle.container.specs.Catalog.{load};
-ghost use Rattle.container.specs.Promise.{Makes, Empty, Loads, Refuses, headOutcome, readOutcome, restFrom};
-use head::Head;
-use messages::Outcome;
-use messages::Read;
-use plurals::Reading;
-use rules::Rule;
+ghost use Rattle.rules.specs.Pool.{pool};
+ghost use Rattle.container.specs.Catalog.{noTables, load};
+ghost use Rattle.container.specs.Promise.{Empty, Empties, Loads, Opens};
+ghost use Rattle.container.specs.Private.{headOutcome, readOutcome, restFrom};
 
 // Whether a forced rule is given, by which reading rules are read, and whether UTF-8 is forced.
 pub struct Options {
@@ -17,13 +19,9 @@ pub struct Options {
     pub utf8: bool,
 }
 
-// What a lookup needs beside the file: its length, its byte order, the count, the two tables, and the rule's nodes.
+// What a lookup needs beside the file: its tables, and the rule's nodes.
 pub struct Record {
-    pub length: usize,
-    pub big: bool,
-    pub count: usize,
-    pub originals: usize,
-    pub translations: usize,
+    pub tables: Tables,
     pub codes: [u8; 512],
     pub places: [u16; 1536],
     pub values: [u64; 512],
@@ -31,46 +29,47 @@ pub struct Record {
     pub root: usize,
 }
 
+// How a load went: the tables, those of the empty catalog where it is refused, and how many nodes the rule in the arrays has.
+pub struct Loading {
+    pub outcome: Outcome,
+    pub tables: Tables,
+    pub nodes: usize,
+}
+
+// The same with the rule, as a record by value.
 pub struct Loaded {
     pub outcome: Outcome,
     pub record: Record,
 }
 
-// The record of a file with that rule. The root is the rule's last node.
-fn record_of(
-    length: usize,
-    big: bool,
-    count: usize,
-    originals: usize,
-    translations: usize,
-    rule: Rule,
-) -> Record
-    requires { ⌜ 0 < rule .count ⌝ }
-    ensures { λ r. ⌜ Makes length big count originals translations rule r ⌝ }
+fn no_tables() -> Tables
+    ensures { λ r. ⌜ r ≡ noTables ⌝ }
 {
-    let codes = rule.codes;
-    let places = rule.places;
-    let values = rule.values;
-    let nodes = rule.count;
+    Tables {
+        length: 0,
+        big: false,
+        count: 0,
+        originals: 0,
+        translations: 0,
+    }
+}
+
+// The empty catalog: no entries, and the default rule. Its root is its last node.
+pub fn empty() -> Record
+    ensures { λ r. ⌜ Empty r ⌝ }
+{
+    let mut codes = [0u8; 512];
+    let mut places = [0u16; 1536];
+    let mut values = [0u64; 512];
+    let nodes = rules::put_default(&mut codes, &mut places, &mut values);
     Record {
-        length,
-        big,
-        count,
-        originals,
-        translations,
+        tables: no_tables(),
         codes,
         places,
         values,
         nodes,
         root: nodes - 1,
     }
-}
-
-// The empty catalog: no entries, and the default rule.
-pub fn empty() -> Record
-    ensures { λ r. ⌜ Empty r ⌝ }
-{
-    record_of(0, false, 0, 0, 0, rules::default_rule())
 }
 
 // How the load stands after an entry.
@@ -85,18 +84,13 @@ fn entry_outcome(entry: Read) -> Outcome
 }
 
 // The entries after entry 0, up to the first that is refused.
-fn parse_rest(
-    file: &[u8],
-    big: bool,
-    count: usize,
-    originals: usize,
-    translations: usize,
-) -> Outcome
-    ensures { λ r. ⌜ r ≡ restFrom big (now (file .entry)) originals translations (count - 1) 1 ⌝ }
+fn parse_rest(file: &[u8], t: Tables) -> Outcome
+    ensures { λ r. ⌜ r ≡ restFrom (now (file .entry)) t (t .count - 1) 1 ⌝ }
 {
+    let count = container_layout::wide(t.count);
     let mut i = 1;
     while i < count {
-        let passed = entry_outcome(messages::parse_entry(file, big, originals, translations, i));
+        let passed = entry_outcome(container_messages::parse_entry(file, t, i));
         let Outcome::Loaded = passed else {
             return passed;
         };
@@ -105,13 +99,20 @@ fn parse_rest(
     Outcome::Loaded
 }
 
-// A refused load: the empty catalog, whatever was forced.
-fn refused(outcome: Outcome) -> Loaded
-    ensures { λ r. ⌜ Refuses outcome r ⌝ }
+// The empty catalog, beside an outcome: what a refused load leaves, whatever was forced.
+pub fn empty_into(
+    outcome: Outcome,
+    codes: &mut [u8; 512],
+    places: &mut [u16; 1536],
+    values: &mut [u64; 512],
+) -> Loading
+    ensures { λ r. ⌜ Empties outcome (pool (now (codes .exit)) (now (places .exit)) (now (values .exit))) r ⌝ }
 {
-    Loaded {
+    let nodes = rules::put_default(codes, places, values);
+    Loading {
         outcome,
-        record: empty(),
+        tables: no_tables(),
+        nodes,
     }
 }
 
@@ -119,47 +120,70 @@ fn head_outcome(head: Head) -> Outcome
     ensures { λ r. ⌜ r ≡ headOutcome head ⌝ }
 {
     match head {
-        Head::Fields(big, count, originals, translations) => Outcome::Loaded,
+        Head::Fields(t) => Outcome::Loaded,
         Head::Refused(e) => Outcome::Refused(e),
     }
 }
 
-// Loads the catalog that lies in the file. `rule` is the forced rule's text, where the options say that one is given.
-pub fn load<'a>(file: &'a [u8], rule: &'a [u8], options: Options) -> Loaded
-    ensures { λ r. ⌜ Loads (load options (now (rule .entry)) (now (file .entry))) r ⌝ }
+// Loads the catalog that lies in the file. `rule` is the forced rule's text, where the options say that one is given. The nodes of the rule
+// that counts, the default where the load is refused, are what the arrays then hold.
+pub fn load_into<'a>(
+    file: &'a [u8],
+    rule: &'a [u8],
+    options: Options,
+    codes: &mut [u8; 512],
+    places: &mut [u16; 1536],
+    values: &mut [u64; 512],
+) -> Loading
+    ensures { λ r. ⌜ Loads (load options (now (rule .entry)) (now (file .entry))) (pool (now (codes .exit)) (now (places .exit)) (now (values .exit))) r ⌝ }
 {
     let reading = options.reading;
-    let forced = choice::parse_forced(rule, options.forced, reading);
+    let forced = container_rule::parse_forced(rule, options.forced, reading, codes, places, values);
     let before = forced.outcome;
     let Outcome::Loaded = before else {
-        return refused(before);
+        return empty_into(before, codes, places, values);
     };
-    let head = head::parse_head(file);
-    let Head::Fields(big, count, originals, translations) = head else {
-        return refused(head_outcome(head));
+    let head = container_head::parse_head(file);
+    let Head::Fields(t) = head else {
+        return empty_into(head_outcome(head), codes, places, values);
     };
-    let first = first::parse_first(
-        file,
-        big,
-        count,
-        originals,
-        translations,
-        options.forced,
-        options.utf8,
-    );
-    let ruled = choice::rule_of(file, first, forced, reading);
+    let first = container_rule::parse_first(file, t, options.forced, options.utf8);
+    let ruled = container_rule::rule_of(file, first, forced.nodes, reading, codes, places, values);
     let so_far = ruled.outcome;
     let Outcome::Loaded = so_far else {
-        return refused(so_far);
+        return empty_into(so_far, codes, places, values);
     };
-    let rest = parse_rest(file, big, count, originals, translations);
+    let rest = parse_rest(file, t);
     let Outcome::Loaded = rest else {
-        return refused(rest);
+        return empty_into(rest, codes, places, values);
     };
-    let chosen = ruled.rule;
-    let record = record_of(file.len(), big, count, originals, translations, chosen);
-    Loaded {
+    Loading {
         outcome: Outcome::Loaded,
-        record,
+        tables: t,
+        nodes: ruled.nodes,
+    }
+}
+
+// The same as a record by value. The root is the rule's last node.
+pub fn load<'a>(file: &'a [u8], rule: &'a [u8], options: Options) -> Loaded
+    ensures { λ r. ⌜ Opens (load options (now (rule .entry)) (now (file .entry))) r ⌝ }
+{
+    let mut codes = [0u8; 512];
+    let mut places = [0u16; 1536];
+    let mut values = [0u64; 512];
+    let loading = load_into(file, rule, options, &mut codes, &mut places, &mut values);
+    let nodes = loading.nodes;
+    let tables = loading.tables;
+    let outcome = loading.outcome;
+    Loaded {
+        outcome,
+        record: Record {
+            tables,
+            codes,
+            places,
+            values,
+            nodes,
+            root: nodes - 1,
+        },
     }
 }

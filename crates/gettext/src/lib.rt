@@ -1,54 +1,42 @@
 // The four lookups in a catalog: the file, lent, and the record that loading returned. A port of lib.rs. Each is two functions: one
-// says by value which text answers, and why; the other hands back that text, a part of the file or of the caller's own.
+// says by value why, and so which text answers; the other hands back that text, a part of the file or of the caller's own.
 use container::Record;
-use keys::Tables;
-use lookup::Answer;
+use lookup::Reason;
 use rules::Fit;
 use rules::Rated;
 ghost use mathlib.Core.Path.{_≡_};
 ghost use mathlib.Core.Bool.{true};
 ghost use Rattle.rules.specs.Answer.{ratedOf, fitOf};
-ghost use Rattle.keys.specs.Keys.{keyOf};
-ghost use Rattle.lookup.specs.Lookup.{singular, plural};
-ghost use Rattle.lookup.specs.Text.{IsText};
-ghost use Rattle.gettext.specs.Catalog.{tablesOf, poolOf};
+ghost use Rattle.lookup_scan.specs.Keys.{keyOf};
+ghost use Rattle.lookup.specs.Text.{singularText, pluralText, IsText};
+ghost use Rattle.gettext.specs.Catalog.{poolOf, found, counted};
 
-// The record without its rule.
-fn tables_of(catalog: Record) -> Tables
-    ensures { λ r. ⌜ r ≡ tablesOf catalog ⌝ }
+// Why `gettext` answers as it does.
+pub fn answer_gettext(file: &[u8], catalog: Record, id: &[u8]) -> Reason
+    ensures { λ r. ⌜ r ≡ found (now (file .entry)) catalog (now (id .entry)) ⌝ }
 {
-    Tables {
-        length: catalog.length,
-        big: catalog.big,
-        count: catalog.count,
-        originals: catalog.originals,
-        translations: catalog.translations,
-    }
+    let tables = catalog.tables;
+    lookup::find(file, tables, false, id, id)
 }
 
-// Which text `gettext` answers.
-pub fn answer_gettext(file: &[u8], catalog: Record, id: &[u8]) -> Answer
-    ensures { λ r. ⌜ r ≡ singular (now (file .entry)) (tablesOf catalog) (now (id .entry)) ⌝ }
+// Why `pgettext` does: the key is the context, byte 4 and the id.
+pub fn answer_pgettext(file: &[u8], catalog: Record, context: &[u8], id: &[u8]) -> Reason
+    ensures { λ r. ⌜ r ≡ found (now (file .entry)) catalog (keyOf true (now (context .entry)) (now (id .entry))) ⌝ }
 {
-    lookup::find(file, tables_of(catalog), false, id, id)
+    let tables = catalog.tables;
+    lookup::find(file, tables, true, context, id)
 }
 
-// Which text `pgettext` answers: the key is the context, byte 4 and the id.
-pub fn answer_pgettext(file: &[u8], catalog: Record, context: &[u8], id: &[u8]) -> Answer
-    ensures { λ r. ⌜ r ≡ singular (now (file .entry)) (tablesOf catalog) (keyOf true (now (context .entry)) (now (id .entry))) ⌝ }
+// Why `ngettext` does for a count.
+pub fn answer_ngettext<'a>(file: &'a [u8], catalog: Record, id: &'a [u8], n: u64) -> Reason
+    ensures { λ r. ⌜ r ≡ counted (now (file .entry)) catalog (now (id .entry)) n ⌝ }
 {
-    lookup::find(file, tables_of(catalog), true, context, id)
-}
-
-// Which text `ngettext` answers for a count.
-pub fn answer_ngettext<'a>(file: &'a [u8], catalog: Record, id: &'a [u8], n: u64) -> Answer
-    ensures { λ r. ⌜ r ≡ plural (now (file .entry)) (tablesOf catalog) (poolOf catalog) (catalog .nodes) (catalog .root) (now (id .entry)) n ⌝ }
-{
+    let tables = catalog.tables;
     let nodes = catalog.nodes;
     let root = catalog.root;
     lookup::nfind(
         file,
-        tables_of(catalog),
+        tables,
         &catalog.codes,
         &catalog.places,
         &catalog.values,
@@ -61,22 +49,22 @@ pub fn answer_ngettext<'a>(file: &'a [u8], catalog: Record, id: &'a [u8], n: u64
     )
 }
 
-// Which text `npgettext` answers for a count.
+// Why `npgettext` does for a count.
 pub fn answer_npgettext<'a>(
     file: &'a [u8],
     catalog: Record,
     context: &'a [u8],
     id: &'a [u8],
     n: u64,
-) -> Answer
-    ensures { λ r. ⌜ r ≡ plural (now (file .entry)) (tablesOf catalog) (poolOf catalog) (catalog .nodes) (catalog .root)
-        (keyOf true (now (context .entry)) (now (id .entry))) n ⌝ }
+) -> Reason
+    ensures { λ r. ⌜ r ≡ counted (now (file .entry)) catalog (keyOf true (now (context .entry)) (now (id .entry))) n ⌝ }
 {
+    let tables = catalog.tables;
     let nodes = catalog.nodes;
     let root = catalog.root;
     lookup::nfind(
         file,
-        tables_of(catalog),
+        tables,
         &catalog.codes,
         &catalog.places,
         &catalog.values,
@@ -91,17 +79,19 @@ pub fn answer_npgettext<'a>(
 
 // The translation of an id, or the id.
 pub fn gettext<'a>(file: &'a [u8], catalog: Record, id: &'a [u8]) -> &'a [u8]
-    ensures { λ r. ⌜ IsText (file .entry) (id .entry) (id .entry) (singular (now (file .entry)) (tablesOf catalog) (now (id .entry))) r ⌝ }
+    ensures { λ r. ⌜ IsText (file .entry) (id .entry) (id .entry) (singularText (found (now (file .entry)) catalog (now (id .entry)))) r ⌝ }
 {
-    lookup::text_of(file, id, id, answer_gettext(file, catalog, id))
+    let reason = answer_gettext(file, catalog, id);
+    lookup::text_of(file, id, id, lookup::singular_text(reason))
 }
 
 // The translation of an id in a context, or the id.
 pub fn pgettext<'a>(file: &'a [u8], catalog: Record, context: &'a [u8], id: &'a [u8]) -> &'a [u8]
     ensures { λ r. ⌜ IsText (file .entry) (id .entry) (id .entry)
-        (singular (now (file .entry)) (tablesOf catalog) (keyOf true (now (context .entry)) (now (id .entry)))) r ⌝ }
+        (singularText (found (now (file .entry)) catalog (keyOf true (now (context .entry)) (now (id .entry))))) r ⌝ }
 {
-    lookup::text_of(file, id, id, answer_pgettext(file, catalog, context, id))
+    let reason = answer_pgettext(file, catalog, context, id);
+    lookup::text_of(file, id, id, lookup::singular_text(reason))
 }
 
 // The form of a translation that the catalog's rule names for a count, or the id for one and the plural id otherwise.
@@ -112,10 +102,10 @@ pub fn ngettext<'a>(
     plural_id: &'a [u8],
     n: u64,
 ) -> &'a [u8]
-    ensures { λ r. ⌜ IsText (file .entry) (id .entry) («plural_id» .entry)
-        (plural (now (file .entry)) (tablesOf catalog) (poolOf catalog) (catalog .nodes) (catalog .root) (now (id .entry)) n) r ⌝ }
+    ensures { λ r. ⌜ IsText (file .entry) (id .entry) («plural_id» .entry) (pluralText n (counted (now (file .entry)) catalog (now (id .entry)) n)) r ⌝ }
 {
-    lookup::text_of(file, id, plural_id, answer_ngettext(file, catalog, id, n))
+    let reason = answer_ngettext(file, catalog, id, n);
+    lookup::text_of(file, id, plural_id, lookup::plural_text(reason, n))
 }
 
 // The same of an id in a context.
@@ -128,15 +118,10 @@ pub fn npgettext<'a>(
     n: u64,
 ) -> &'a [u8]
     ensures { λ r. ⌜ IsText (file .entry) (id .entry) («plural_id» .entry)
-        (plural (now (file .entry)) (tablesOf catalog) (poolOf catalog) (catalog .nodes) (catalog .root)
-        (keyOf true (now (context .entry)) (now (id .entry))) n) r ⌝ }
+        (pluralText n (counted (now (file .entry)) catalog (keyOf true (now (context .entry)) (now (id .entry))) n)) r ⌝ }
 {
-    lookup::text_of(
-        file,
-        id,
-        plural_id,
-        answer_npgettext(file, catalog, context, id, n),
-    )
+    let reason = answer_npgettext(file, catalog, context, id, n);
+    lookup::text_of(file, id, plural_id, lookup::plural_text(reason, n))
 }
 
 // The lowest and the highest form of the catalog's rule.
@@ -145,7 +130,7 @@ pub fn rating(catalog: Record) -> Rated
 {
     let nodes = catalog.nodes;
     let root = catalog.root;
-    rating::rating_of(
+    rules_range::rating_of(
         &catalog.codes,
         &catalog.places,
         &catalog.values,
@@ -160,7 +145,7 @@ pub fn fits(catalog: Record, k: u64) -> Fit
 {
     let nodes = catalog.nodes;
     let root = catalog.root;
-    rating::fits(
+    rules_range::fits(
         &catalog.codes,
         &catalog.places,
         &catalog.values,

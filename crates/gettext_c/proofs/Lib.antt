@@ -1,2 +1,5 @@
+pub mod Exports
+pub mod Fresh
 pub mod Right
+pub mod Demands
 pub mod Unique

@@ -1,35 +1,52 @@
--- For each exported function: its promise allows one result. What is lent is lent to read only, so that it is unchanged is in its type.
--- Assumes nothing.
-use mathlib.Core.Path.{sym, ap, _∙_}
-use Rattle.promise.proofs.One.{One}
-use Rattle.container.proofs.Unique.{holds-one, loads-one}
-use Rattle.host.specs.Host.{recordOf, loadedOf}
-use Rattle.gettext_c.proofs.gettext_rattle_empty.Reads as empty
-use Rattle.gettext_c.proofs.gettext_rattle_empty.Kinds as empty-kinds
-use Rattle.gettext_c.proofs.gettext_rattle_load.Reads as load
-use Rattle.gettext_c.proofs.gettext_rattle_load.Kinds as load-kinds
-use Rattle.gettext_c.proofs.gettext_rattle_gettext.Reads as gettext
-use Rattle.gettext_c.proofs.gettext_rattle_gettext.Kinds as gettext-kinds
-use Rattle.gettext_c.proofs.gettext_rattle_pgettext.Reads as pgettext
-use Rattle.gettext_c.proofs.gettext_rattle_pgettext.Kinds as pgettext-kinds
-use Rattle.gettext_c.proofs.gettext_rattle_ngettext.Reads as ngettext
-use Rattle.gettext_c.proofs.gettext_rattle_ngettext.Kinds as ngettext-kinds
-use Rattle.gettext_c.proofs.gettext_rattle_npgettext.Reads as npgettext
-use Rattle.gettext_c.proofs.gettext_rattle_npgettext.Kinds as npgettext-kinds
-use Rattle.gettext_c.proofs.gettext_rattle_rating.Reads as rating
-use Rattle.gettext_c.proofs.gettext_rattle_rating.Kinds as rating-kinds
-use Rattle.gettext_c.proofs.gettext_rattle_fits.Reads as fits
-use Rattle.gettext_c.proofs.gettext_rattle_fits.Kinds as fits-kinds
-use Rattle.gettext_c.proofs.gettext_rattle_evaluate.Reads as evaluate
-use Rattle.gettext_c.proofs.gettext_rattle_evaluate.Kinds as evaluate-kinds
-use Rattle.gettext_c.proofs.gettext_rattle_is_utf8.Reads as is-utf8
-use Rattle.gettext_c.proofs.gettext_rattle_is_utf8.Kinds as is-utf8-kinds
+-- Each exported function's promise fixes its result: any two results that it allows on the same input are equal, what it leaves in lent
+-- arrays counted in. `Post` is the promise as the check reads it from the source. Assumes nothing.
+use Prim.Native.Nat.{ℕ}
+use mathlib.Core.Path.{_≡_, sym, ap₂, _∙_}
+use mathlib.Core.List.{List}
+use contract.Lifetimes.{Lfts}
+use denote.Ref.{now}
+use denote.Triple.Clauses.{AtExit}
+use borrow.Fn.Kinds.{endedOf}
+use Rattle.promise.proofs.One.{One, OneLeft}
+use Rattle.rules.specs.Pool.{Pool, pool}
+use Rattle.host.specs.declared.Loaded.{Loaded}
+use Rattle.gettext_c.proofs.gettext_c_empty.Reads as empty
+use Rattle.gettext_c.proofs.gettext_c_empty.Kinds as empty-kinds
+use Rattle.gettext_c.proofs.gettext_c_load.Reads as load
+use Rattle.gettext_c.proofs.gettext_c_load.Kinds as load-kinds
+use Rattle.gettext_c.proofs.gettext_c_gettext.Reads as gettext
+use Rattle.gettext_c.proofs.gettext_c_gettext.Kinds as gettext-kinds
+use Rattle.gettext_c.proofs.gettext_c_pgettext.Reads as pgettext
+use Rattle.gettext_c.proofs.gettext_c_pgettext.Kinds as pgettext-kinds
+use Rattle.gettext_c.proofs.gettext_c_ngettext.Reads as ngettext
+use Rattle.gettext_c.proofs.gettext_c_ngettext.Kinds as ngettext-kinds
+use Rattle.gettext_c.proofs.gettext_c_npgettext.Reads as npgettext
+use Rattle.gettext_c.proofs.gettext_c_npgettext.Kinds as npgettext-kinds
+use Rattle.gettext_c.proofs.gettext_c_rating.Reads as rating
+use Rattle.gettext_c.proofs.gettext_c_rating.Kinds as rating-kinds
+use Rattle.gettext_c.proofs.gettext_c_fits.Reads as fits
+use Rattle.gettext_c.proofs.gettext_c_fits.Kinds as fits-kinds
+use Rattle.gettext_c.proofs.gettext_c_resolve.Reads as resolve
+use Rattle.gettext_c.proofs.gettext_c_resolve.Kinds as resolve-kinds
+use Rattle.gettext_c.proofs.gettext_c_is_utf8.Reads as is-utf8
+use Rattle.gettext_c.proofs.gettext_c_is_utf8.Kinds as is-utf8-kinds
+use Rattle.gettext_c.proofs.gettext_c_cost.Reads as cost
+use Rattle.gettext_c.proofs.gettext_c_cost.Kinds as cost-kinds
 
-pub empty-one : One 0 empty-kinds.ps empty-kinds.r empty.Post
-empty-one κs a u v x y p q = p .is ∙ ap recordOf (holds-one (p .below) (q .below) (p .empty) (q .empty)) ∙ sym (q .is)
+abbrev made : ℕ → List ℕ → Loaded
+made n h = record { number = n; head = h }
 
-pub load-one : One 1 load-kinds.ps load-kinds.r load.Post
-load-one κs a u v x y p q = p .is ∙ ap loadedOf (loads-one _ (p .below) (q .below) (p .loads) (q .loads)) ∙ sym (q .is)
+abbrev empty-left : (κs : Lfts 3) → AtExit (endedOf 3 empty-kinds.ps empty-kinds.r) κs → Pool
+empty-left κs x = pool (now (x .0)) (now (x .1 .0)) (now (x .1 .1 .0))
+
+pub empty-one : OneLeft 3 empty-kinds.ps empty-kinds.r empty.Post empty-left
+empty-one κs a u v x y p q = (ap₂ made (p .number-is ∙ sym (q .number-is)) (p .head-is ∙ sym (q .head-is)), p .rule-is ∙ sym (q .rule-is))
+
+abbrev load-left : (κs : Lfts 4) → AtExit (endedOf 4 load-kinds.ps load-kinds.r) κs → Pool
+load-left κs x = pool (now (x .1 .1 .1 .1 .1 .0)) (now (x .1 .1 .1 .1 .1 .1 .0)) (now (x .1 .1 .1 .1 .1 .1 .1 .0))
+
+pub load-one : OneLeft 4 load-kinds.ps load-kinds.r load.Post load-left
+load-one κs a u v x y p q = (ap₂ made (p .number-is ∙ sym (q .number-is)) (p .head-is ∙ sym (q .head-is)), p .rule-is ∙ sym (q .rule-is))
 
 pub gettext-one : One 1 gettext-kinds.ps gettext-kinds.r gettext.Post
 gettext-one κs a u v x y p q = p ∙ sym q
@@ -49,8 +66,11 @@ rating-one κs a u v x y p q = p ∙ sym q
 pub fits-one : One 1 fits-kinds.ps fits-kinds.r fits.Post
 fits-one κs a u v x y p q = p ∙ sym q
 
-pub evaluate-one : One 1 evaluate-kinds.ps evaluate-kinds.r evaluate.Post
-evaluate-one κs a u v x y p q = p ∙ sym q
+pub resolve-one : One 1 resolve-kinds.ps resolve-kinds.r resolve.Post
+resolve-one κs a u v x y p q = p ∙ sym q
 
 pub is-utf8-one : One 1 is-utf8-kinds.ps is-utf8-kinds.r is-utf8.Post
 is-utf8-one κs a u v x y p q = p ∙ sym q
+
+pub cost-one : One 1 cost-kinds.ps cost-kinds.r cost.Post
+cost-one κs a u v x y p q = p ∙ sym q

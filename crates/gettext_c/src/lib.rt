@@ -1,91 +1,101 @@
 // The port for a host in C or Rust, as a static library: the file is lent, numbers come back, and the host takes the text that they
-// name from its own memory.
+// name from its own memory. A record is what the host keeps of a load: its head, seven numbers, and the three arrays of its rule's nodes,
+// which a load writes and every other function only reads.
 use host::Answer;
 use host::Fits;
 use host::Form;
 use host::Loaded;
 use host::Rating;
-use host::Record;
+use host::tables_in;
+use refusal::Outcome;
 ghost use mathlib.Core.Path.{_≡_};
 ghost use mathlib.Core.Bool.{true};
-ghost use Rattle.utf8.specs.Utf8.{utf8};
+ghost use Rattle.text_utf8.specs.Utf8.{utf8};
 ghost use Rattle.rules.specs.Pool.{pool};
 ghost use Rattle.rules.specs.Value.{truth};
 ghost use Rattle.rules.specs.Answer.{resolvedOf, ratedOf, fitOf};
-ghost use Rattle.keys.specs.Keys.{keyOf};
-ghost use Rattle.lookup.specs.Lookup.{singular, plural};
+ghost use Rattle.lookup_scan.specs.Keys.{keyOf};
 ghost use Rattle.container.specs.Catalog.{load};
-ghost use Rattle.numbers.specs.Numbers.{optionsOf};
-ghost use Rattle.host.specs.Host.{IsEmpty, Loads, tablesIn, answerOf, ratingOf, fitsOf, valueOf};
+ghost use Rattle.container_cost.specs.Cost.{cost};
+ghost use Rattle.host.specs.Host.{optionsOf, nodesIn, rootIn, answerOf, ownFor, ratingOf, fitsOf, valueOf};
+ghost use Rattle.gettext_c.specs.Record.{Loads, IsEmpty, found, counted};
 
 // The empty catalog.
 #[no_mangle]
-pub extern "C" fn gettext_rattle_empty() -> Record
-    ensures { λ r. ⌜ IsEmpty r ⌝ }
+pub extern "C" fn gettext_c_empty(
+    codes: &mut [u8; 512],
+    places: &mut [u16; 1536],
+    values: &mut [u64; 512],
+) -> Loaded
+    ensures { λ r. ⌜ IsEmpty (pool (now (codes .exit)) (now (places .exit)) (now (values .exit))) r ⌝ }
 {
-    host::record_of(container::empty())
+    let loading = container::empty_into(Outcome::Loaded, codes, places, values);
+    host::loaded_of(loading)
 }
 
 // Loads the catalog that lies in the file. `rule` is read where `forced` is set; `standard` chooses the reading of rules.
 #[no_mangle]
-pub extern "C" fn gettext_rattle_load<'a>(
+pub extern "C" fn gettext_c_load<'a>(
     file: &'a [u8],
     rule: &'a [u8],
     forced: u32,
     standard: u32,
     utf8: u32,
+    codes: &mut [u8; 512],
+    places: &mut [u16; 1536],
+    values: &mut [u64; 512],
 ) -> Loaded
-    ensures { λ r. ⌜ Loads (load (optionsOf forced standard utf8) (now (rule .entry)) (now (file .entry))) r ⌝ }
+    ensures { λ r. ⌜ Loads (load (optionsOf forced standard utf8) (now (rule .entry)) (now (file .entry)))
+        (pool (now (codes .exit)) (now (places .exit)) (now (values .exit))) r ⌝ }
 {
-    let loaded = container::load(file, rule, numbers::options_of(forced, standard, utf8));
-    let outcome = loaded.outcome;
-    Loaded {
-        number: numbers::outcome_number(outcome),
-        catalog: host::record_of(loaded.record),
-    }
+    let options = host::options_of(forced, standard, utf8);
+    let loading = container::load_into(file, rule, options, codes, places, values);
+    host::loaded_of(loading)
 }
 
 #[no_mangle]
-pub extern "C" fn gettext_rattle_gettext<'a>(
+pub extern "C" fn gettext_c_gettext<'a>(
     file: &'a [u8],
-    tables: &'a [usize; 5],
+    head: &'a [usize; 7],
     id: &'a [u8],
 ) -> Answer
-    ensures { λ r. ⌜ r ≡ answerOf (singular (now (file .entry)) (tablesIn (now (tables .entry))) (now (id .entry))) ⌝ }
+    ensures { λ r. ⌜ r ≡ answerOf 1 (found (now (file .entry)) (now (head .entry)) (now (id .entry))) ⌝ }
 {
-    host::answer_of(lookup::find(file, host::tables_in(tables), false, id, id))
+    let reason = lookup::find(file, tables_in(head), false, id, id);
+    host::answer_of(reason, 1)
 }
 
 #[no_mangle]
-pub extern "C" fn gettext_rattle_pgettext<'a>(
+pub extern "C" fn gettext_c_pgettext<'a>(
     file: &'a [u8],
-    tables: &'a [usize; 5],
+    head: &'a [usize; 7],
     context: &'a [u8],
     id: &'a [u8],
 ) -> Answer
-    ensures { λ r. ⌜ r ≡ answerOf (singular (now (file .entry)) (tablesIn (now (tables .entry))) (keyOf true (now (context .entry)) (now (id .entry)))) ⌝ }
+    ensures { λ r. ⌜ r ≡ answerOf 1 (found (now (file .entry)) (now (head .entry)) (keyOf true (now (context .entry)) (now (id .entry)))) ⌝ }
 {
-    host::answer_of(lookup::find(file, host::tables_in(tables), true, context, id))
+    let reason = lookup::find(file, tables_in(head), true, context, id);
+    host::answer_of(reason, 1)
 }
 
 #[no_mangle]
-pub extern "C" fn gettext_rattle_ngettext<'a>(
+pub extern "C" fn gettext_c_ngettext<'a>(
     file: &'a [u8],
-    tables: &'a [usize; 5],
+    head: &'a [usize; 7],
     codes: &'a [u8; 512],
     places: &'a [u16; 1536],
     values: &'a [u64; 512],
-    nodes: usize,
-    root: usize,
     id: &'a [u8],
     n: u64,
 ) -> Answer
-    ensures { λ r. ⌜ r ≡ answerOf (plural (now (file .entry)) (tablesIn (now (tables .entry)))
-        (pool (now (codes .entry)) (now (places .entry)) (now (values .entry))) nodes root (now (id .entry)) n) ⌝ }
+    ensures { λ r. ⌜ r ≡ answerOf (ownFor n) (counted (now (file .entry)) (now (head .entry))
+        (pool (now (codes .entry)) (now (places .entry)) (now (values .entry))) (now (id .entry)) n) ⌝ }
 {
-    host::answer_of(lookup::nfind(
+    let nodes = head[5];
+    let root = head[6];
+    let reason = lookup::nfind(
         file,
-        host::tables_in(tables),
+        tables_in(head),
         codes,
         places,
         values,
@@ -95,29 +105,29 @@ pub extern "C" fn gettext_rattle_ngettext<'a>(
         id,
         id,
         n,
-    ))
+    );
+    host::answer_of(reason, host::own_for(n))
 }
 
 #[no_mangle]
-pub extern "C" fn gettext_rattle_npgettext<'a>(
+pub extern "C" fn gettext_c_npgettext<'a>(
     file: &'a [u8],
-    tables: &'a [usize; 5],
+    head: &'a [usize; 7],
     codes: &'a [u8; 512],
     places: &'a [u16; 1536],
     values: &'a [u64; 512],
-    nodes: usize,
-    root: usize,
     context: &'a [u8],
     id: &'a [u8],
     n: u64,
 ) -> Answer
-    ensures { λ r. ⌜ r ≡ answerOf (plural (now (file .entry)) (tablesIn (now (tables .entry)))
-        (pool (now (codes .entry)) (now (places .entry)) (now (values .entry))) nodes root
-        (keyOf true (now (context .entry)) (now (id .entry))) n) ⌝ }
+    ensures { λ r. ⌜ r ≡ answerOf (ownFor n) (counted (now (file .entry)) (now (head .entry))
+        (pool (now (codes .entry)) (now (places .entry)) (now (values .entry))) (keyOf true (now (context .entry)) (now (id .entry))) n) ⌝ }
 {
-    host::answer_of(lookup::nfind(
+    let nodes = head[5];
+    let root = head[6];
+    let reason = lookup::nfind(
         file,
-        host::tables_in(tables),
+        tables_in(head),
         codes,
         places,
         values,
@@ -127,57 +137,72 @@ pub extern "C" fn gettext_rattle_npgettext<'a>(
         context,
         id,
         n,
-    ))
+    );
+    host::answer_of(reason, host::own_for(n))
 }
 
 // The lowest and the highest form of a record's rule.
 #[no_mangle]
-pub extern "C" fn gettext_rattle_rating<'a>(
+pub extern "C" fn gettext_c_rating<'a>(
+    head: &'a [usize; 7],
     codes: &'a [u8; 512],
     places: &'a [u16; 1536],
     values: &'a [u64; 512],
-    nodes: usize,
-    root: usize,
 ) -> Rating
-    ensures { λ r. ⌜ r ≡ ratingOf (ratedOf (pool (now (codes .entry)) (now (places .entry)) (now (values .entry))) nodes root) ⌝ }
+    ensures { λ r. ⌜ r ≡ ratingOf (ratedOf (pool (now (codes .entry)) (now (places .entry)) (now (values .entry)))
+        (nodesIn (now (head .entry))) (rootIn (now (head .entry)))) ⌝ }
 {
-    host::rating_of(rating::rating_of(codes, places, values, nodes, root))
+    let nodes = head[5];
+    let root = head[6];
+    host::rating_of(rules_range::rating_of(codes, places, values, nodes, root))
 }
 
 // Whether a record's rule is rated and names forms below k alone.
 #[no_mangle]
-pub extern "C" fn gettext_rattle_fits<'a>(
+pub extern "C" fn gettext_c_fits<'a>(
+    head: &'a [usize; 7],
     codes: &'a [u8; 512],
     places: &'a [u16; 1536],
     values: &'a [u64; 512],
-    nodes: usize,
-    root: usize,
     k: u64,
 ) -> Fits
-    ensures { λ r. ⌜ r ≡ fitsOf (fitOf (pool (now (codes .entry)) (now (places .entry)) (now (values .entry))) nodes root k) ⌝ }
+    ensures { λ r. ⌜ r ≡ fitsOf (fitOf (pool (now (codes .entry)) (now (places .entry)) (now (values .entry)))
+        (nodesIn (now (head .entry))) (rootIn (now (head .entry))) k) ⌝ }
 {
-    host::fits_of(rating::fits(codes, places, values, nodes, root, k))
+    let nodes = head[5];
+    let root = head[6];
+    host::fits_of(rules_range::fits(codes, places, values, nodes, root, k))
 }
 
 // The form that a record's rule names for a count.
 #[no_mangle]
-pub extern "C" fn gettext_rattle_evaluate<'a>(
+pub extern "C" fn gettext_c_resolve<'a>(
+    head: &'a [usize; 7],
     codes: &'a [u8; 512],
     places: &'a [u16; 1536],
     values: &'a [u64; 512],
-    nodes: usize,
-    root: usize,
     n: u64,
 ) -> Form
-    ensures { λ r. ⌜ r ≡ valueOf (resolvedOf (pool (now (codes .entry)) (now (places .entry)) (now (values .entry))) nodes root n) ⌝ }
+    ensures { λ r. ⌜ r ≡ valueOf (resolvedOf (pool (now (codes .entry)) (now (places .entry)) (now (values .entry)))
+        (nodesIn (now (head .entry))) (rootIn (now (head .entry))) n) ⌝ }
 {
-    host::form_of(resolve::resolve(codes, places, values, nodes, root, n))
+    let nodes = head[5];
+    let root = head[6];
+    host::form_of(rules_value::resolve(codes, places, values, nodes, root, n))
 }
 
 // Whether a text is UTF-8: 1 or 0.
 #[no_mangle]
-pub extern "C" fn gettext_rattle_is_utf8(text: &[u8]) -> u32
+pub extern "C" fn gettext_c_is_utf8(text: &[u8]) -> u32
     ensures { λ r. ⌜ r ≡ truth (utf8 (now (text .entry))) ⌝ }
 {
-    numbers::flag_of(utf8::is_utf8(text))
+    host::flag_of(text_utf8::is_utf8(text))
+}
+
+// What loading a file costs: the sum of the lengths that its tables state, in the time of a pass over them.
+#[no_mangle]
+pub extern "C" fn gettext_c_cost(file: &[u8]) -> u64
+    ensures { λ r. ⌜ r ≡ cost (now (file .entry)) ⌝ }
+{
+    container_cost::cost(file)
 }

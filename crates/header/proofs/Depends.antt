@@ -8,13 +8,13 @@ use mathlib.Core.Option.{Option, none, some}
 use native.Mathlib.Omega.{arith}
 use lib.ListN.{length, take, drop, length-take}
 use Rattle.text.proofs.Parts.{part-of-part}
-use Rattle.text.specs.Trim.{six}
+use Rattle.text_trim.specs.Trim.{six}
 use Rattle.text.specs.Bytes.{bytes}
 use Rattle.text.specs.Cut.{every}
-use Rattle.fields.specs.Fields.{shift, lines, lineOk}
-use Rattle.fields.specs.Promise.{endOf}
-use Rattle.fields.specs.declared.Place.{Place}
-use Rattle.fields.specs.declared.Place.the-variants.{At, Absent}
+use Rattle.header_fields.specs.Fields.{shift, lines, lineOk}
+use Rattle.header_fields.specs.Promise.{endOf}
+use Rattle.header_fields.specs.declared.Place.{Place}
+use Rattle.header_fields.specs.declared.Place.the-variants.{At, Absent}
 use Rattle.header.specs.Header.{within, field, charset, plural, metadata}
 use Rattle.header.specs.Promise.{partOf}
 use Rattle.header.specs.declared.Sought.{Sought}

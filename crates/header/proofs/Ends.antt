@@ -5,15 +5,15 @@ use mathlib.Core.List.{List}
 use native.Mathlib.Omega.{arith}
 use lib.ListN.{length, take, drop, length-drop}
 use lib.Seq.{length-take-le}
-use Rattle.text.specs.Trim.{six}
+use Rattle.text_trim.specs.Trim.{six}
 use Rattle.text.specs.Bytes.{bytes}
 use Rattle.text.specs.Cut.{every}
 use Rattle.text.proofs.Tests.{taken, left, by-test}
-use Rattle.fields.specs.Fields.{lines, lineOk}
-use Rattle.fields.specs.Promise.{endOf}
-use Rattle.fields.specs.declared.Place.{Place}
-use Rattle.fields.specs.declared.Place.the-variants.{At, Absent}
-use Rattle.fields.proofs.Places.{shift-end}
+use Rattle.header_fields.specs.Fields.{lines, lineOk}
+use Rattle.header_fields.specs.Promise.{endOf}
+use Rattle.header_fields.specs.declared.Place.{Place}
+use Rattle.header_fields.specs.declared.Place.the-variants.{At, Absent}
+use Rattle.header_fields.proofs.Places.{shift-end}
 use Rattle.header.specs.Header.{within, field, metadata}
 use Rattle.header.specs.Promise.{partOf}
 use Rattle.header.specs.declared.Sought.{Sought}

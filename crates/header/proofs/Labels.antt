@@ -4,12 +4,12 @@ use mathlib.Core.Path.{_≡_, sym, ap, _∙_}
 use mathlib.Core.Bool.{Bool, true, false}
 use mathlib.Core.List.{List, map}
 use lib.ListN.{length, take, drop, length-drop}
-use Rattle.text.specs.Trim.{label, trim}
+use Rattle.text_trim.specs.Trim.{label, trim}
 use Rattle.text.specs.Bytes.{bytes, first, same, small}
 use Rattle.text.specs.declared.Found.{Found}
 use Rattle.text.specs.declared.Found.the-variants as found
 use Rattle.text.proofs.Walk.{part-from}
-use Rattle.fields.specs.declared.Place.the-variants.{At, Absent}
+use Rattle.header_fields.specs.declared.Place.the-variants.{At, Absent}
 use Rattle.header.specs.Header.{upTo, charset, labelIs, utf8Label}
 
 abbrev pub pattern : List ℕ

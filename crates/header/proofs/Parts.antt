@@ -6,18 +6,18 @@ use mathlib.Core.List.{List}
 use native.Mathlib.Omega.{arith}
 use native.Mathlib.Nat.{add-sub-cancel-left}
 use lib.ListN.{length, take, drop, length-drop}
-use Rattle.text.specs.Trim.{six}
+use Rattle.text_trim.specs.Trim.{six}
 use Rattle.text.specs.Bytes.{bytes, first}
 use Rattle.text.specs.Cut.{every}
 use Rattle.text.specs.declared.Found.{Found}
 use Rattle.text.specs.declared.Found.the-variants as found
 use Rattle.text.proofs.Tests.{taken, left}
-use Rattle.compare.proofs.Sought.{first-inside}
-use Rattle.fields.specs.Fields.{shift, named, lines, lineOk}
-use Rattle.fields.specs.Promise.{endOf}
-use Rattle.fields.specs.declared.Place.{Place}
-use Rattle.fields.specs.declared.Place.the-variants.{At}
-use Rattle.fields.proofs.Places.{named-end, cut-end}
+use Rattle.text.proofs.Sought.{first-inside}
+use Rattle.header_fields.specs.Fields.{shift, named, lines, lineOk}
+use Rattle.header_fields.specs.Promise.{endOf}
+use Rattle.header_fields.specs.declared.Place.{Place}
+use Rattle.header_fields.specs.declared.Place.the-variants.{At}
+use Rattle.header_fields.proofs.Places.{named-end, cut-end}
 use Rattle.header.specs.Header.{within, field, upTo, labelAfter, charset, plural, metadata}
 use Rattle.header.specs.Promise.{partOf}
 use Rattle.header.specs.declared.Sought.{Sought}

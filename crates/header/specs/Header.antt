@@ -6,14 +6,14 @@ use Prim.Native.Char.{code}
 use mathlib.Core.Bool.{Bool, true, false, _||_}
 use mathlib.Core.List.{List, map}
 use lib.ListN.{length, take, drop}
-use Rattle.text.specs.Trim.{six, label, trim}
+use Rattle.text_trim.specs.Trim.{six, label, trim}
 use Rattle.text.specs.Bytes.{bytes, same, first, small}
 use Rattle.text.specs.Cut.{cut, every}
 use Rattle.text.specs.declared.Found.{Found}
 use Rattle.text.specs.declared.Found.the-variants as found
-use Rattle.fields.specs.Fields.{shift, named, lastOf, lineOk, lines}
-use Rattle.fields.specs.declared.Place.{Place}
-use Rattle.fields.specs.declared.Place.the-variants.{At, Absent}
+use Rattle.header_fields.specs.Fields.{shift, named, lastOf, lineOk, lines}
+use Rattle.header_fields.specs.declared.Place.{Place}
+use Rattle.header_fields.specs.declared.Place.the-variants.{At, Absent}
 use Rattle.header.specs.declared.Metadata.{Metadata}
 use Rattle.header.specs.declared.Metadata.the-variants.{Malformed, Fields}
 

@@ -1,8 +1,8 @@
 -- What the functions behind the public ones promise.
 use Prim.Native.Nat.{ℕ}
 use mathlib.Core.List.{List}
-use Rattle.text.specs.Trim.{six}
-use Rattle.fields.specs.declared.Place.{Place}
+use Rattle.text_trim.specs.Trim.{six}
+use Rattle.header_fields.specs.declared.Place.{Place}
 use Rattle.header.specs.Header.{charset, plural}
 use Rattle.header.specs.declared.Sought.{Sought}
 use Rattle.header.specs.declared.Sought.the-variants.{Charset, Plural}

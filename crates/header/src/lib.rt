@@ -3,13 +3,13 @@
 ghost use mathlib.Core.Path.{_≡_};
 ghost use Prim.Native.Nat.{_≤_};
 ghost use lib.ListN.{length};
-ghost use Rattle.text.specs.Trim.{six};
-ghost use Rattle.fields.specs.Promise.{endOf};
+ghost use Rattle.text_trim.specs.Trim.{six};
+ghost use Rattle.header_fields.specs.Promise.{endOf};
 ghost use Rattle.header.specs.Header.{within, charset, plural, metadata, utf8Label};
 ghost use Rattle.header.specs.Promise.{partOf};
-use fields::Place;
+use header_fields::Place;
 use text::Found;
-use text::Set;
+use text_trim::Set;
 
 // The charset label and the plural rule, or a line that is no field.
 pub enum Metadata {
@@ -21,12 +21,12 @@ pub enum Metadata {
 fn charset_in(v: &[u8]) -> Place
     ensures { λ r. ⌜ r ≡ charset (now (v .entry)) ⌝ }
 {
-    let first = compare::find(v, b"charset=");
+    let first = text::find(v, b"charset=");
     let Found::At(i) = first else {
         return Place::Absent;
     };
     let start = i + 8;
-    let second = compare::find(&v[start..], b"charset=");
+    let second = text::find(&v[start..], b"charset=");
     match second {
         Found::At(j) => Place::At(start, j),
         Found::Nowhere => Place::At(start, v.len() - start),
@@ -37,7 +37,7 @@ fn charset_in(v: &[u8]) -> Place
 fn plural_in(v: &[u8]) -> Place
     ensures { λ r. ⌜ r ≡ plural six (now (v .entry)) ⌝ }
 {
-    fields::last_of(v, b';', b'=', b"plural")
+    header_fields::last_of(v, b';', b'=', b"plural")
 }
 
 // What is sought in a field's value.
@@ -63,7 +63,7 @@ fn part_in(h: &[u8], p: Place, sought: Sought) -> Place
     match p {
         Place::At(start, len) => {
             let end = start + len;
-            fields::moved(start, part_of(&h[start..end], sought))
+            header_fields::moved(start, part_of(&h[start..end], sought))
         }
         Place::Absent => Place::Absent,
     }
@@ -73,11 +73,11 @@ fn part_in(h: &[u8], p: Place, sought: Sought) -> Place
 pub fn parse_metadata(h: &[u8]) -> Metadata
     ensures { λ r. ⌜ r ≡ metadata six (now (h .entry)) ⌝ }
 {
-    if !fields::lines_ok(h) {
+    if !header_fields::lines_ok(h) {
         return Metadata::Malformed;
     }
-    let content_type = fields::last_of(h, b'\n', b':', b"Content-Type");
-    let plural_forms = fields::last_of(h, b'\n', b':', b"Plural-Forms");
+    let content_type = header_fields::last_of(h, b'\n', b':', b"Content-Type");
+    let plural_forms = header_fields::last_of(h, b'\n', b':', b"Plural-Forms");
     Metadata::Fields(
         part_in(h, content_type, Sought::Charset),
         part_in(h, plural_forms, Sought::Plural),
@@ -88,12 +88,12 @@ pub fn parse_metadata(h: &[u8]) -> Metadata
 pub fn is_utf8_label(label: &[u8]) -> bool
     ensures { λ r. ⌜ r ≡ utf8Label (now (label .entry)) ⌝ }
 {
-    let name = trim::trim(label, Set::Label);
-    if compare::equal_small(name, b"utf-8") {
+    let name = text_trim::trim(label, Set::Label);
+    if text::equal_small(name, b"utf-8") {
         return true;
     }
-    if compare::equal_small(name, b"utf8") {
+    if text::equal_small(name, b"utf8") {
         return true;
     }
-    compare::equal_small(name, b"unicode-1-1-utf-8")
+    text::equal_small(name, b"unicode-1-1-utf-8")
 }

@@ -2,10 +2,18 @@
 -- as the check reads it from the source. Assumes nothing.
 use mathlib.Core.Path.{sym, _∙_}
 use Rattle.promise.proofs.One.{One}
-use Rattle.host.proofs.record_of.Reads as record-of
-use Rattle.host.proofs.record_of.Kinds as record-of-kinds
+use Rattle.host.proofs.flag_of.Reads as flag-of
+use Rattle.host.proofs.flag_of.Kinds as flag-of-kinds
+use Rattle.host.proofs.options_of.Reads as options-of
+use Rattle.host.proofs.options_of.Kinds as options-of-kinds
+use Rattle.host.proofs.head_of.Reads as head-of
+use Rattle.host.proofs.head_of.Kinds as head-of-kinds
+use Rattle.host.proofs.loaded_of.Reads as loaded-of
+use Rattle.host.proofs.loaded_of.Kinds as loaded-of-kinds
 use Rattle.host.proofs.tables_in.Reads as tables-in
 use Rattle.host.proofs.tables_in.Kinds as tables-in-kinds
+use Rattle.host.proofs.own_for.Reads as own-for
+use Rattle.host.proofs.own_for.Kinds as own-for-kinds
 use Rattle.host.proofs.answer_of.Reads as answer-of
 use Rattle.host.proofs.answer_of.Kinds as answer-of-kinds
 use Rattle.host.proofs.rating_of.Reads as rating-of
@@ -15,11 +23,23 @@ use Rattle.host.proofs.fits_of.Kinds as fits-of-kinds
 use Rattle.host.proofs.form_of.Reads as form-of
 use Rattle.host.proofs.form_of.Kinds as form-of-kinds
 
-pub record-of-one : One 0 record-of-kinds.ps record-of-kinds.r record-of.Post
-record-of-one κs a u v x y p q = p ∙ sym q
+pub flag-of-one : One 0 flag-of-kinds.ps flag-of-kinds.r flag-of.Post
+flag-of-one κs a u v x y p q = p ∙ sym q
+
+pub options-of-one : One 0 options-of-kinds.ps options-of-kinds.r options-of.Post
+options-of-one κs a u v x y p q = p ∙ sym q
+
+pub head-of-one : One 0 head-of-kinds.ps head-of-kinds.r head-of.Post
+head-of-one κs a u v x y p q = p .0 ∙ sym (q .0)
+
+pub loaded-of-one : One 0 loaded-of-kinds.ps loaded-of-kinds.r loaded-of.Post
+loaded-of-one κs a u v x y p q = p .0 ∙ sym (q .0)
 
 pub tables-in-one : One 1 tables-in-kinds.ps tables-in-kinds.r tables-in.Post
 tables-in-one κs a u v x y p q = p ∙ sym q
+
+pub own-for-one : One 0 own-for-kinds.ps own-for-kinds.r own-for.Post
+own-for-one κs a u v x y p q = p ∙ sym q
 
 pub answer-of-one : One 0 answer-of-kinds.ps answer-of-kinds.r answer-of.Post
 answer-of-one κs a u v x y p q = p ∙ sym q

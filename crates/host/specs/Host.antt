@@ -1,8 +1,11 @@
--- The answers of the layers below as numbers. Document 01, "Numbers returned" and "The record".
-use Prim.Native.Nat.{ℕ}
-use mathlib.Core.Path.{_≡_}
+-- What the layers below take and answer, as numbers. Document 01, "Numbers returned" and "The record".
+use Prim.Native.Nat.{ℕ, _-_, _%_}
+use mathlib.Core.Bool.{Bool, true, false, not}
 use mathlib.Core.List.{List, [], _∷_}
 use lib.ListN.{getD}
+use lib.Dec.{eqb}
+use Rattle.refusal.specs.Numbers.{numberOf, outcomeNumber}
+use Rattle.refusal.specs.declared.Error.the-variants.{ZeroModulus, BadRecord}
 use Rattle.rules.specs.Value.{truth}
 use Rattle.rules.specs.declared.Resolved.{Resolved}
 use Rattle.rules.specs.declared.Resolved.the-variants as resolved
@@ -10,79 +13,79 @@ use Rattle.rules.specs.declared.Rated.{Rated}
 use Rattle.rules.specs.declared.Rated.the-variants as rated
 use Rattle.rules.specs.declared.Fit.{Fit}
 use Rattle.rules.specs.declared.Fit.the-variants as fit
-use Rattle.container.specs.declared.Record as below-record
-use Rattle.container.specs.declared.Loaded as below-loaded
-use Rattle.container.specs.Catalog as catalog
-use Rattle.container.specs.Promise as promise
-use Rattle.keys.specs.declared.Tables as tables
-use Rattle.lookup.specs.Lookup as lookup
-use Rattle.lookup.specs.declared.Why.the-variants.{ZeroModulus, BadRecord}
-use Rattle.lookup.specs.declared.Answer as answer
-use Rattle.lookup.specs.declared.Answer.the-variants.{Segment, Id, PluralId}
-use Rattle.numbers.specs.Numbers.{isSet, outcomeNumber}
-use Rattle.host.specs.declared.Record.{Record}
+use Rattle.reading_rule.specs.declared.Reading.{Reading}
+use Rattle.reading_rule.specs.declared.Reading.the-variants.{Shipped, Standard}
+use Rattle.container_layout.specs.declared.Tables.{Tables}
+use Rattle.container.specs.declared.Options.{Options}
+use Rattle.container.specs.declared.Loading.{Loading}
+use Rattle.lookup.specs.Lookup.{number}
+use Rattle.lookup.specs.declared.Reason.{Reason}
+use Rattle.lookup.specs.declared.Reason.the-variants as reason
 use Rattle.host.specs.declared.Loaded.{Loaded}
 use Rattle.host.specs.declared.Answer.{Answer}
 use Rattle.host.specs.declared.Rating.{Rating}
 use Rattle.host.specs.declared.Fits.{Fits}
 use Rattle.host.specs.declared.Form.{Form}
 
--- the record without its rule as five numbers, and back
-abbrev pub tablesOf : below-record.Record → List ℕ
-tablesOf r = r .length ∷ r .count ∷ r .originals ∷ r .translations ∷ truth (r .big) ∷ []
+-- any number but 0 is yes
+abbrev pub isSet : ℕ → Bool
+isSet x = not (eqb x 0)
 
-abbrev pub tablesIn : List ℕ → tables.Tables
-tablesIn t = record {
-  length = getD t 0 0;
-  big = isSet (getD t 4 0);
-  count = getD t 1 0;
-  originals = getD t 2 0;
-  translations = getD t 3 0;
+abbrev pub readingOf : ℕ → Reading
+readingOf x = elim (isSet x) [ true ↦ Standard | false ↦ Shipped ]
+
+abbrev pub optionsOf : ℕ → ℕ → ℕ → Options
+optionsOf forced standard utf8 = record { forced = isSet forced; reading = readingOf standard; utf8 = isSet utf8 }
+
+-- a record without the arrays of its rule as seven numbers; its last node is the root
+abbrev pub headOf : Tables → ℕ → List ℕ
+headOf t nodes = t .length ∷ t .count ∷ t .originals ∷ t .translations ∷ truth (t .big) ∷ nodes ∷ (nodes - 1) ∷ []
+
+abbrev pub loadedOf : Loading → Loaded
+loadedOf r = record { number = outcomeNumber (r .outcome); head = headOf (r .tables) (r .nodes) }
+
+-- what such numbers say; a word of a file has 32 bits, and of a larger number the low 32 count
+abbrev pub tablesIn : List ℕ → Tables
+tablesIn h = record {
+  length = getD h 0 0;
+  big = isSet (getD h 4 0);
+  count = getD h 1 0 % 4294967296;
+  originals = getD h 2 0 % 4294967296;
+  translations = getD h 3 0 % 4294967296;
 }
 
-abbrev pub recordOf : below-record.Record → Record
-recordOf r = record {
-  tables = tablesOf r;
-  nodes = r .nodes;
-  root = r .root;
-  values = r .values;
-  places = r .places;
-  codes = r .codes;
-}
+abbrev pub nodesIn : List ℕ → ℕ
+nodesIn h = getD h 5 0
 
-abbrev pub loadedOf : below-loaded.Loaded → Loaded
-loadedOf r = record { number = outcomeNumber (r .outcome); catalog = recordOf (r .record) }
+abbrev pub rootIn : List ℕ → ℕ
+rootIn h = getD h 6 0
 
-pub record IsEmpty (r : Record) : Type 0 where
-  pub below : below-record.Record
-  pub empty : promise.Empty below
-  pub is : r ≡ recordOf below
+-- which text answers: 0 is the segment, 1 the id, 2 the plural id; with a count the caller's own is the id for 1
+abbrev pub ownFor : ℕ → ℕ
+ownFor n = elim (eqb n 1) [ true ↦ 1 | false ↦ 2 ]
 
-pub record Loads (a : catalog.Answer) (r : Loaded) : Type 0 where
-  pub below : below-loaded.Loaded
-  pub loads : promise.Loads a below
-  pub is : r ≡ loadedOf below
-
--- 0 is the segment, 1 the id, 2 the plural id
 abbrev pub fallback : ℕ → ℕ → Answer
-fallback number which = record { number = number; which = which; entry = 0; form = 0; start = 0; len = 0 }
+fallback number own = record { number = number; which = own; entry = 0; form = 0; start = 0; len = 0 }
 
-abbrev pub answerOf : answer.Answer → Answer
-answerOf (Segment i form start len) = record { number = 0; which = 0; entry = i; form = form; start = start; len = len }
-answerOf (Id why) = fallback (lookup.numberOf why) 1
-answerOf (PluralId why) = fallback (lookup.numberOf why) 2
+abbrev pub answerOf : ℕ → Reason → Answer
+answerOf own (reason.Answered i form start len) = record { number = 0; which = 0; entry = i; form = form; start = start; len = len }
+answerOf own reason.StaleLength = fallback (number reason.StaleLength) own
+answerOf own reason.NoTree = fallback (number reason.NoTree) own
+answerOf own reason.ZeroModulus = fallback (number reason.ZeroModulus) own
+answerOf own reason.NoEntry = fallback (number reason.NoEntry) own
+answerOf own (reason.TooFewSegments i) = fallback (number (reason.TooFewSegments i)) own
 
 abbrev pub ratingOf : Rated → Rating
 ratingOf (rated.Range l h) = record { number = 0; rated = 1; lowest = l; highest = h }
 ratingOf rated.Unrated = record { number = 0; rated = 0; lowest = 0; highest = 0 }
-ratingOf rated.NoTree = record { number = lookup.numberOf BadRecord; rated = 0; lowest = 0; highest = 0 }
+ratingOf rated.NoTree = record { number = numberOf BadRecord; rated = 0; lowest = 0; highest = 0 }
 
 abbrev pub fitsOf : Fit → Fits
 fitsOf fit.Yes = record { number = 0; fits = 1 }
 fitsOf fit.No = record { number = 0; fits = 0 }
-fitsOf fit.NoTree = record { number = lookup.numberOf BadRecord; fits = 0 }
+fitsOf fit.NoTree = record { number = numberOf BadRecord; fits = 0 }
 
 abbrev pub valueOf : Resolved → Form
 valueOf (resolved.Form x) = record { number = 0; form = x }
-valueOf resolved.ZeroModulus = record { number = lookup.numberOf ZeroModulus; form = 0 }
-valueOf resolved.NoTree = record { number = lookup.numberOf BadRecord; form = 0 }
+valueOf resolved.ZeroModulus = record { number = numberOf ZeroModulus; form = 0 }
+valueOf resolved.NoTree = record { number = numberOf BadRecord; form = 0 }

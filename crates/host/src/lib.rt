@@ -1,30 +1,26 @@
-// The answers of the layers below as a host in C or Rust takes them: numbers in records with the layout of C.
-use lookup::Why;
-use numbers::why_number;
+// What a host in C or Rust says and is told: numbers, in records with the layout of C. A flag is a number, any but 0 being yes, so that no
+// record and no call that a host can make is senseless.
+use container::Loading;
+use container::Options;
+use container_layout::Tables;
+use lookup::Reason;
+use reading_rule::Reading;
+use refusal::Error;
 use rules::Fit;
 use rules::Rated;
 use rules::Resolved;
 ghost use mathlib.Core.Path.{_≡_};
-ghost use Rattle.host.specs.Host.{recordOf, tablesIn, answerOf, fallback, ratingOf, fitsOf, valueOf};
+ghost use Prim.Native.Nat.{_<_, _%_};
+ghost use Rattle.rules.specs.Value.{truth};
+ghost use Rattle.host.specs.Host.{isSet, readingOf, optionsOf, headOf, tablesIn, loadedOf, ownFor, fallback, answerOf, ratingOf, fitsOf, valueOf};
 
-// What lookups need beside the file. The tables are five numbers: the file's length, how many entries it has, where the originals' table
-// and the translations' lie, and whether (not 0) the highest byte of a word comes first. The rule is nodes: codes, three places of
-// operands each, and the values of integers.
-#[repr(C)]
-pub struct Record {
-    pub tables: [usize; 5],
-    pub nodes: usize,
-    pub root: usize,
-    pub values: [u64; 512],
-    pub places: [u16; 1536],
-    pub codes: [u8; 512],
-}
-
-// Document 01's number, and the record, the empty one where the number is not 0.
+// How a load went: document 01's number, and the head of the record, that of the empty catalog where the number is not 0. A head is the
+// file's length, how many entries it has, where the originals' table and the translations' lie, whether (not 0) the highest byte of a word
+// comes first, how many nodes the rule has, and its root. The rule's nodes are arrays beside it: codes, operand places, values.
 #[repr(C)]
 pub struct Loaded {
     pub number: u32,
-    pub catalog: Record,
+    pub head: [usize; 7],
 }
 
 // The text that answers: 0 is the segment of the file at start, 1 the caller's id, 2 the caller's plural id.
@@ -61,44 +57,113 @@ pub struct Form {
     pub form: u64,
 }
 
-// The record that a host keeps.
-pub fn record_of(r: container::Record) -> Record
-    ensures { λ q. ⌜ q ≡ recordOf r ⌝ }
+// A flag, from a number.
+fn is_set(flag: usize) -> bool
+    ensures { λ r. ⌜ r ≡ isSet flag ⌝ }
 {
-    let values = r.values;
-    let places = r.places;
-    let codes = r.codes;
-    let big = numbers::order_of(r.big);
-    let tables = [r.length, r.count, r.originals, r.translations, big];
-    Record {
-        tables,
-        nodes: r.nodes,
-        root: r.root,
-        values,
-        places,
-        codes,
+    flag != 0
+}
+
+// A flag as a number.
+pub fn flag_of(b: bool) -> u32
+    ensures { λ r. ⌜ r ≡ truth b ⌝ }
+{
+    if b { 1 } else { 0 }
+}
+
+fn reading_of(standard: u32) -> Reading
+    ensures { λ r. ⌜ r ≡ readingOf standard ⌝ }
+{
+    if standard == 0 {
+        return Reading::Shipped;
+    }
+    Reading::Standard
+}
+
+// How to load, from three flags.
+pub fn options_of(forced: u32, standard: u32, utf8: u32) -> Options
+    ensures { λ r. ⌜ r ≡ optionsOf forced standard utf8 ⌝ }
+{
+    Options {
+        forced: forced != 0,
+        reading: reading_of(standard),
+        utf8: utf8 != 0,
     }
 }
 
-// The tables of a record that a host lends.
-pub fn tables_in<'a>(tables: &'a [usize; 5]) -> keys::Tables
-    ensures { λ r. ⌜ r ≡ tablesIn (now (tables .entry)) ⌝ }
+fn order_of(big: bool) -> usize
+    ensures { λ r. ⌜ r ≡ truth big ⌝ }
 {
-    keys::Tables {
-        length: tables[0],
-        big: numbers::is_set(tables[4]),
-        count: tables[1],
-        originals: tables[2],
-        translations: tables[3],
+    if big { 1 } else { 0 }
+}
+
+// The head of a record with those tables, whose rule has that many nodes, the last of them the root.
+pub fn head_of(t: Tables, nodes: usize) -> [usize; 7]
+    requires { ⌜ 0 < nodes ⌝ }
+    ensures is { λ r. ⌜ r ≡ headOf t nodes ⌝ }
+    ensures kept { λ r. ⌜ tablesIn r ≡ t ⌝ }
+{
+    let count = container_layout::wide(t.count);
+    let originals = container_layout::wide(t.originals);
+    let translations = container_layout::wide(t.translations);
+    [
+        t.length,
+        count,
+        originals,
+        translations,
+        order_of(t.big),
+        nodes,
+        nodes - 1,
+    ]
+}
+
+// How a load went.
+pub fn loaded_of(loading: Loading) -> Loaded
+    requires { ⌜ 0 < loading .nodes ⌝ }
+    ensures is { λ r. ⌜ r ≡ loadedOf loading ⌝ }
+    ensures kept { λ r. ⌜ tablesIn (r .head) ≡ loading .tables ⌝ }
+{
+    let outcome = loading.outcome;
+    let tables = loading.tables;
+    Loaded {
+        number: refusal::outcome_number(outcome),
+        head: head_of(tables, loading.nodes),
     }
 }
 
-fn fallback(number: u32, which: u32) -> Answer
-    ensures { λ r. ⌜ r ≡ fallback number which ⌝ }
+// A word of a file has 32 bits: of a larger number the low 32 count.
+fn low(x: usize) -> u32
+    ensures { λ r. ⌜ r ≡ x % 4294967296 ⌝ }
+{
+    (x % 4294967296) as u32
+}
+
+// The tables of a head that a host lends.
+pub fn tables_in<'a>(head: &'a [usize; 7]) -> Tables
+    ensures { λ r. ⌜ r ≡ tablesIn (now (head .entry)) ⌝ }
+{
+    Tables {
+        length: head[0],
+        big: is_set(head[4]),
+        count: low(head[1]),
+        originals: low(head[2]),
+        translations: low(head[3]),
+    }
+}
+
+// The caller's own text for a count: the id for one, the plural id otherwise.
+pub fn own_for(n: u64) -> u32
+    ensures { λ r. ⌜ r ≡ ownFor n ⌝ }
+{
+    if n == 1 { 1 } else { 2 }
+}
+
+fn fallback(number: u32, own: u32) -> Answer
+    ensures { λ r. ⌜ r ≡ fallback number own ⌝ }
 {
     Answer {
         number,
-        which,
+        which: own,
         entry: 0,
         form: 0,
         start: 0,
@@ -106,21 +171,20 @@ fn fallback(number: u32, which: u32) -> Answer
     }
 }
 
-// What a lookup found.
-pub fn answer_of(answer: lookup::Answer) -> Answer
-    ensures { λ r. ⌜ r ≡ answerOf answer ⌝ }
+// What a lookup answers, by its reason; `own` is the caller's own text.
+pub fn answer_of(reason: Reason, own: u32) -> Answer
+    ensures { λ r. ⌜ r ≡ answerOf own reason ⌝ }
 {
-    match answer {
-        lookup::Answer::Segment(entry, form, start, len) => Answer {
-            number: 0,
-            which: 0,
-            entry,
-            form,
-            start,
-            len,
-        },
-        lookup::Answer::Id(why) => fallback(why_number(why), 1),
-        lookup::Answer::PluralId(why) => fallback(why_number(why), 2),
+    let Reason::Answered(entry, form, start, len) = reason else {
+        return fallback(lookup::number_of(reason), own);
+    };
+    Answer {
+        number: 0,
+        which: 0,
+        entry,
+        form,
+        start,
+        len,
     }
 }
 
@@ -141,7 +205,7 @@ pub fn rating_of(rated: Rated) -> Rating
             highest: 0,
         },
         Rated::NoTree => Rating {
-            number: why_number(Why::BadRecord),
+            number: refusal::number_of(Error::BadRecord),
             rated: 0,
             lowest: 0,
             highest: 0,
@@ -156,7 +220,7 @@ pub fn fits_of(fit: Fit) -> Fits
         Fit::Yes => Fits { number: 0, fits: 1 },
         Fit::No => Fits { number: 0, fits: 0 },
         Fit::NoTree => Fits {
-            number: why_number(Why::BadRecord),
+            number: refusal::number_of(Error::BadRecord),
             fits: 0,
         },
     }
@@ -168,11 +232,11 @@ pub fn form_of(resolved: Resolved) -> Form
     match resolved {
         Resolved::Form(form) => Form { number: 0, form },
         Resolved::ZeroModulus => Form {
-            number: why_number(Why::ZeroModulus),
+            number: refusal::number_of(Error::ZeroModulus),
             form: 0,
         },
         Resolved::NoTree => Form {
-            number: why_number(Why::BadRecord),
+            number: refusal::number_of(Error::BadRecord),
             form: 0,
         },
     }

@@ -9,7 +9,7 @@ use lib.Seq.{drop-cons}
 use borrow.Author.Tests.{lt-ltb, le-ltb}
 use Rattle.rules.specs.Tree.{rem}
 use Rattle.rules.specs.Store.{opCode}
-use Rattle.scan.specs.Scan.{indexOf}
+use Rattle.reading_scan.specs.Scan.{indexOf}
 use Rattle.levels.specs.Levels.{row, rows, binary, rowAt, rowOf, codeOf}
 
 -- the tables of src/lib.rt: two signs for a row, how many of them count, and the node's code

@@ -7,7 +7,7 @@ use lib.ListN.{length, getD}
 use lib.Dec.{ltb}
 use Rattle.rules.specs.Tree.{Op, cmp, and, or, rem, eq, ne, ge, le, gt, lt}
 use Rattle.rules.specs.Store.{opCode}
-use Rattle.scan.specs.Scan.{indexOf}
+use Rattle.reading_scan.specs.Scan.{indexOf}
 
 -- the levels, in the order in which the Rust tries them: the pattern that is sought, and what the text is cut into there
 pub data Kind : Type 0 where

@@ -3,7 +3,7 @@
 ghost use mathlib.Core.Path.{_≡_};
 ghost use Prim.Native.Nat.{_<_};
 ghost use lib.ListN.{length};
-ghost use Rattle.scan.specs.Scan.{indexOf};
+ghost use Rattle.reading_scan.specs.Scan.{indexOf};
 ghost use Rattle.levels.specs.Levels.{rows, rowAt, rowOf, codeOf};
 
 // The levels in their order: two signs for each, how many of them count, and the code of the node.
@@ -37,7 +37,7 @@ pub fn place_of(s: &[u8], row: usize) -> usize
     let signs = SIGNS;
     let start = 2 * row;
     let end = start + width_of(row);
-    scan::index_of(s, &signs[start..end])
+    reading_scan::index_of(s, &signs[start..end])
 }
 
 // The first row whose pattern stands in the text, or the number of rows.

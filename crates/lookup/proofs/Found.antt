@@ -1,120 +1,85 @@
--- Where an answer's segment comes from, in any record and any file: an entry below the count, and a form of its translation. So the
--- segment lies in the file, and a host may take it from there. Assumes nothing.
+-- Where an answer comes from, however its entry was found, in any record and any file: the file's length is the record's, the form is the
+-- rule's value, and the segment is the one that this form names in an entry below the count that has the key. So it lies in the file, and
+-- a host may take it from there. Assumes nothing.
 use Prim.Native.Nat.{ℕ, zero, suc, _+_, _<_, _≤_}
 use mathlib.Core.Path.{_≡_, refl, sym, ap, _∙_}
 use mathlib.Core.List.{List, [], _∷_}
 use native.Mathlib.Omega.{arith}
 use lib.ListN.{length, getD, take, drop}
 use lib.Dec.{eqb, leb, ltb}
-use borrow.Author.Tests.{leb-true, ltb-true, ltb-false}
+use borrow.Author.Tests.{eqb-true, leb-true, ltb-true, ltb-false}
 use Rattle.text.proofs.Tests.{taken, left, by-test}
-use Rattle.rules.specs.Pool.{Pool}
-use Rattle.rules.specs.Answer.{resolvedOf}
 use Rattle.rules.specs.declared.Resolved.{Resolved}
 use Rattle.rules.specs.declared.Resolved.the-variants as resolved
-use Rattle.layout.specs.Mo.{pieceAt, segment, segments}
-use Rattle.layout.specs.declared.Entry.{Entry}
-use Rattle.layout.specs.declared.Entry.the-variants as entries
-use Rattle.layout.specs.declared.Stretch.{Stretch}
-use Rattle.layout.specs.declared.Stretch.the-variants as stretch
-use Rattle.layout.proofs.Forms.{segment-holds, segment-is}
-use Rattle.keys.specs.Keys.{isKey, hitOf, lastIn, entryOf, lastWith}
-use Rattle.keys.specs.declared.Tables.{Tables}
-use Rattle.keys.specs.declared.Hit.{Hit}
-use Rattle.keys.specs.declared.Hit.the-variants as hit
-use Rattle.lookup.specs.Lookup.{segmentOr, formOr, singular, fallback, byForm, plural}
-use Rattle.lookup.specs.declared.Why.{Why}
-use Rattle.lookup.specs.declared.Why.the-variants.{Absent, ZeroModulus, BadRecord}
-use Rattle.lookup.specs.declared.Answer.{Answer}
-use Rattle.lookup.specs.declared.Answer.the-variants.{Segment, Id, PluralId}
+use Rattle.container_layout.specs.Mo.{pieceAt, segment, segments}
+use Rattle.container_layout.specs.declared.Tables.{Tables}
+use Rattle.container_layout.specs.declared.Stretch.{Stretch}
+use Rattle.container_layout.specs.declared.Stretch.the-variants as stretch
+use Rattle.container_layout.proofs.Forms.{segment-holds, segment-is}
+use Rattle.lookup_scan.specs.Keys.{lastWith}
+use Rattle.lookup_scan.specs.declared.Hit.{Hit}
+use Rattle.lookup_scan.specs.declared.Hit.the-variants as hit
+use Rattle.lookup_scan.proofs.Last.{Entered, Sound, last-sound}
+use Rattle.lookup.specs.Lookup.{bySegment, byRule, plural}
+use Rattle.lookup.specs.declared.Reason.the-variants.{StaleLength, Answered}
 
--- a hit is an entry below k
-record IsHit (s : List ℕ) (t : Tables) (k i start len : ℕ) : Type 0 where
-  below : i < k
-  at : ℕ
-  n : ℕ
-  is : entryOf s t i ≡ entries.At at n start len
-
-module _ (s : List ℕ) (t : Tables) (key : List ℕ) {i start len : ℕ} where
-  hit-of : (k : ℕ) (x : Entry) → entryOf s t k ≡ x → hitOf k x ≡ hit.At i start len → IsHit s t (suc k) i start len
-  hit-of k (entries.At a n b m) e f =
-      let p : k ≡ i = cc in
-      let q : b ≡ start = cc in
-      let r : m ≡ len = cc in
-      record { below = omega arith; at = a; n = n; is = rw (← p, ← q, ← r) e }
-  hit-of k entries.NoEntry e f = absurd (let z : _≡_ {A = ℕ} 0 1 = cc in omega arith)
-
-  last-hit : (k : ℕ) → lastIn (entryOf s t) (isKey s key) k ≡ hit.At i start len → IsHit s t k i start len
-  unfolding lastIn
-  last-hit zero f = absurd (let z : _≡_ {A = ℕ} 0 1 = cc in omega arith)
-  last-hit (suc k) f =
-      by-test (IsHit s t (suc k) i start len) (isKey s key (entryOf s t k))
-      (λ e. hit-of k (entryOf s t k) refl (sym (taken _ _ e) ∙ f))
-      (λ e.
-      let h = last-hit k (sym (left (hitOf k (entryOf s t k)) (lastIn (entryOf s t) (isKey s key) k) e) ∙ f) in
-      record { below = omega (arith, h .below); at = h .at; n = h .n; is = h .is })
-
--- the entry of a segment, and its translation
-pub record Found (s : List ℕ) (t : Tables) (i form at size : ℕ) : Type 0 where
-  pub below : i < t .count
-  pub key : ℕ
-  pub n : ℕ
+-- an answer names the hit and the rule's value
+pub record Answer (s : List ℕ) (t : Tables) (v : Resolved) (h : Hit) (i form at size : ℕ) : Type 0 where
+  pub long : length s ≡ t .length
+  pub value : v ≡ resolved.Form form
   pub start : ℕ
   pub len : ℕ
-  pub entry : entryOf s t i ≡ entries.At key n start len
+  pub hit : h ≡ hit.At i start len
   pub segment : segment s start len form ≡ stretch.At at size
 
-module _ (s : List ℕ) (t : Tables) (key : List ℕ) {i form at size : ℕ} where
-  by-segment : (other : Answer) (g j start len : ℕ) → IsHit s t (t .count) j start len → (x : Stretch) → segment s start len g ≡ x
-      → segmentOr other j g x ≡ Segment i form at size → (other ≡ Segment i form at size → ⊥) → Found s t i form at size
-  by-segment other g j start len h (stretch.At a l) e f n =
+module _ (s : List ℕ) (t : Tables) {i form at size : ℕ} where
+  by-segment : (g j start len : ℕ) (x : Stretch) → length s ≡ t .length → segment s start len g ≡ x → bySegment j g x ≡ Answered i form at size
+      → Answer s t (resolved.Form g) (hit.At j start len) i form at size
+  by-segment g j start len stretch.Outside l e f = let z : _≡_ {A = ℕ} 0 1 = cc in absurd (omega arith)
+  by-segment g j start len (stretch.At a n) l e f =
       let p : j ≡ i = cc in
       let q : g ≡ form = cc in
       let x : a ≡ at = cc in
-      let y : l ≡ size = cc in
+      let y : n ≡ size = cc in
       record {
-        below = omega (arith, h .below);
-        key = h .at;
-        n = h .n;
+        long = l;
+        value = ap resolved.Form q;
         start = start;
         len = len;
-        entry = rw (← p) (h .is);
+        hit = ap (λ (k : ℕ). hit.At k start len) p;
         segment = rw (← q, ← x, ← y) e;
       }
-  by-segment other g j start len h stretch.Outside e f n = absurd (n f)
 
-  by-hit : (other : Answer) (g : ℕ) (h : Hit) → lastWith s t key ≡ h → formOr other s g h ≡ Segment i form at size → (other ≡ Segment i form at size → ⊥) → Found s t i form at size
-  unfolding lastWith
-  by-hit other g (hit.At j start len) e f n = by-segment other g j start len (last-hit s t key (t .count) e) (segment s start len g) refl f n
-  by-hit other g hit.Missing e f n = absurd (n f)
+  by-rule : (v : Resolved) (h : Hit) → length s ≡ t .length → byRule s v h ≡ Answered i form at size → Answer s t v h i form at size
+  by-rule (resolved.Form g) (hit.At j start len) l f = by-segment g j start len (segment s start len g) l refl f
+  by-rule (resolved.Form g) hit.Missing l f = let z : _≡_ {A = ℕ} 0 1 = cc in absurd (omega arith)
+  by-rule resolved.ZeroModulus h l f = let z : _≡_ {A = ℕ} 0 1 = cc in absurd (omega arith)
+  by-rule resolved.NoTree h l f = let z : _≡_ {A = ℕ} 0 1 = cc in absurd (omega arith)
 
-  not-id : {why : Why} → Id why ≡ Segment i form at size → ⊥
-  not-id f = let z : _≡_ {A = ℕ} 0 1 = cc in omega arith
-
-  not-fallback : (n : ℕ) (why : Why) → fallback n why ≡ Segment i form at size → ⊥
-  not-fallback n why f =
-      by-test ⊥ (eqb n 1)
-      (λ e. not-id (sym (taken _ _ e) ∙ f))
-      (λ e. let g : PluralId why ≡ Segment i form at size = sym (left _ _ e) ∙ f in let z : _≡_ {A = ℕ} 0 1 = cc in omega arith)
-
-  pub singular-found : singular s t key ≡ Segment i form at size → Found s t i form at size
-  unfolding singular
-  singular-found f =
-      by-test (Found s t i form at size) (eqb (length s) (t .length))
-      (λ e. by-hit (Id Absent) 0 (lastWith s t key) refl (sym (taken _ _ e) ∙ f) not-id)
-      (λ e. absurd (not-id (sym (left _ _ e) ∙ f)))
-
-  by-rule : (n : ℕ) (v : Resolved) → byForm s t key n v ≡ Segment i form at size → Found s t i form at size
-  by-rule n (resolved.Form g) f = by-hit (fallback n Absent) g (lastWith s t key) refl f (not-fallback n Absent)
-  by-rule n resolved.ZeroModulus f = absurd (not-fallback n ZeroModulus f)
-  by-rule n resolved.NoTree f = absurd (not-fallback n BadRecord f)
-
-  pub plural-found : (P : Pool) (nodes root n : ℕ) → plural s t P nodes root key n ≡ Segment i form at size → Found s t i form at size
+  pub answered : (v : Resolved) (h : Hit) → plural s t v h ≡ Answered i form at size → Answer s t v h i form at size
   unfolding plural
-  plural-found P nodes root n f =
-      by-test (Found s t i form at size) (eqb (length s) (t .length))
-      (λ e. by-rule n (resolvedOf P nodes root n) (sym (taken _ _ e) ∙ f))
-      (λ e. absurd (not-fallback n BadRecord (sym (left _ _ e) ∙ f)))
+  answered v h f =
+      by-test (Answer s t v h i form at size) (eqb (length s) (t .length))
+      (λ e. by-rule v h (eqb-true _ _ e) (sym (taken _ _ e) ∙ f))
+      (λ e. let w = sym (left (byRule s v h) StaleLength e) ∙ f in let z : _≡_ {A = ℕ} 0 1 = cc in absurd (omega arith))
+
+-- the entry of a segment, and its translation
+pub record Found (s : List ℕ) (t : Tables) (key : List ℕ) (v : Resolved) (i form at size : ℕ) : Type 0 where
+  pub value : v ≡ resolved.Form form
+  pub start : ℕ
+  pub len : ℕ
+  pub entered : Entered s t key i start len
+  pub segment : segment s start len form ≡ stretch.At at size
+
+module _ (s : List ℕ) (t : Tables) (key : List ℕ) (v : Resolved) {i form at size : ℕ} where
+  pub found : {h : Hit} → Sound s t key h → plural s t v h ≡ Answered i form at size → Found s t key v i form at size
+  found {h} w f =
+      let a = answered s t v h f in
+      record { value = a .value; start = a .start; len = a .len; entered = w .told i (a .start) (a .len) (a .hit); segment = a .segment }
+
+  -- by the scan
+  pub last-found : plural s t v (lastWith s t key) ≡ Answered i form at size → Found s t key v i form at size
+  last-found f = found (last-sound s t key) f
 
 -- there is no piece past the last
 no-piece : (at k : ℕ) (ps : List (List ℕ)) → length ps ≤ k → pieceAt at k ps ≡ stretch.Outside

@@ -1,5 +1,5 @@
-pub mod Answers
+pub mod Reasons
 pub mod Said
-pub mod Rated
 pub mod Found
+pub mod Rated
 pub mod Unique

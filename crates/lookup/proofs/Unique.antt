@@ -12,12 +12,18 @@ use denote.Ref.{RefT, now}
 use borrow.Fn.Kinds.{Dens, resT, endedOf}
 use Rattle.promise.proofs.One.{One}
 use Rattle.lookup.specs.Text.{partOr, IsText}
-use Rattle.lookup.specs.declared.Answer.{Answer}
-use Rattle.lookup.specs.declared.Answer.the-variants.{Segment, Id, PluralId}
+use Rattle.lookup.specs.declared.Text.{Text}
+use Rattle.lookup.specs.declared.Text.the-variants.{Segment, Id, PluralId}
 use Rattle.lookup.proofs.find.Reads as find
 use Rattle.lookup.proofs.find.Kinds as find-kinds
 use Rattle.lookup.proofs.nfind.Reads as nfind
 use Rattle.lookup.proofs.nfind.Kinds as nfind-kinds
+use Rattle.lookup.proofs.number_of.Reads as number-of
+use Rattle.lookup.proofs.number_of.Kinds as number-of-kinds
+use Rattle.lookup.proofs.singular_text.Reads as singular-text
+use Rattle.lookup.proofs.singular_text.Kinds as singular-text-kinds
+use Rattle.lookup.proofs.plural_text.Reads as plural-text
+use Rattle.lookup.proofs.plural_text.Kinds as plural-text-kinds
 use Rattle.lookup.proofs.text_of.Reads as text-of
 use Rattle.lookup.proofs.text_of.Kinds as text-of-kinds
 
@@ -26,6 +32,15 @@ find-one κs a u v x y p q = p ∙ sym q
 
 pub nfind-one : One 2 nfind-kinds.ps nfind-kinds.r nfind.Post
 nfind-one κs a u v x y p q = p ∙ sym q
+
+pub number-of-one : One 0 number-of-kinds.ps number-of-kinds.r number-of.Post
+number-of-one κs a u v x y p q = p ∙ sym q
+
+pub singular-text-one : One 0 singular-text-kinds.ps singular-text-kinds.r singular-text.Post
+singular-text-one κs a u v x y p q = p ∙ sym q
+
+pub plural-text-one : One 0 plural-text-kinds.ps plural-text-kinds.r plural-text.Post
+plural-text-one κs a u v x y p q = p ∙ sym q
 
 -- the same bytes, in the same block of memory, at the same place
 pub record SameText (u v : RefT (List ℕ)) : Type 0 where
@@ -42,10 +57,10 @@ parts : (b : Bool) (file : RefT (List ℕ)) (start len : ℕ) (id : RefT (List �
 parts true file start len id p q = record { bytes = p .bytes ∙ sym (q .bytes); block = p .block ∙ sym (q .block); place = p .place ∙ sym (q .place) }
 parts false file start len id p q = own p q
 
-pub same-text : (file id pluralId : RefT (List ℕ)) (a : Answer) {u v : RefT (List ℕ)} → IsText file id pluralId a u → IsText file id pluralId a v → SameText u v
-same-text file id pluralId (Segment i form start len) p q = parts (leb (start + len) (length (now file))) file start len id (p .says) (q .says)
-same-text file id pluralId (Id why) p q = own (p .says) (q .says)
-same-text file id pluralId (PluralId why) p q = own (p .says) (q .says)
+pub same-text : (file id pluralId : RefT (List ℕ)) (text : Text) {u v : RefT (List ℕ)} → IsText file id pluralId text u → IsText file id pluralId text v → SameText u v
+same-text file id pluralId (Segment start len) p q = parts (leb (start + len) (length (now file))) file start len id (p .says) (q .says)
+same-text file id pluralId Id p q = own (p .says) (q .says)
+same-text file id pluralId PluralId p q = own (p .says) (q .says)
 
 pub text-of-one : (κs : Lfts 1) (a : Dens κs text-of-kinds.ps) (u v : resT text-of-kinds.r κs .Denot) (x y : AtExit (endedOf 1 text-of-kinds.ps text-of-kinds.r) κs)
     → text-of.Post κs a u x → text-of.Post κs a v y → SameText u v

@@ -1,3 +1,2 @@
 pub mod Lookup
-pub mod Seek
 pub mod Text

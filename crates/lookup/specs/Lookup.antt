@@ -1,61 +1,52 @@
--- What a lookup answers. Document 01, "Numbers returned" and "The record"; the entry with the key is that of `keys`.
+-- Why a lookup answers as it does. Document 01, "Numbers returned" and "The record", and the order of document 02, i. The entry with the key
+-- is given, so that the same is said of every way to find it.
 use Prim.Native.Nat.{ℕ}
 use mathlib.Core.Bool.{true, false}
 use mathlib.Core.List.{List}
 use lib.ListN.{length}
 use lib.Dec.{eqb}
-use Rattle.rules.specs.Pool.{Pool}
-use Rattle.rules.specs.Answer.{resolvedOf}
+use Rattle.refusal.specs.Numbers.{numberOf}
+use Rattle.refusal.specs.declared.Error.the-variants as error
 use Rattle.rules.specs.declared.Resolved.{Resolved}
 use Rattle.rules.specs.declared.Resolved.the-variants as resolved
-use Rattle.layout.specs.Mo.{segment}
-use Rattle.layout.specs.declared.Stretch.{Stretch}
-use Rattle.layout.specs.declared.Stretch.the-variants as stretch
-use Rattle.keys.specs.Keys.{lastWith}
-use Rattle.keys.specs.declared.Tables.{Tables}
-use Rattle.keys.specs.declared.Hit.{Hit}
-use Rattle.keys.specs.declared.Hit.the-variants as hit
-use Rattle.lookup.specs.declared.Why.{Why}
-use Rattle.lookup.specs.declared.Why.the-variants.{Absent, ZeroModulus, BadRecord}
-use Rattle.lookup.specs.declared.Answer.{Answer}
-use Rattle.lookup.specs.declared.Answer.the-variants.{Segment, Id, PluralId}
+use Rattle.container_layout.specs.Mo.{segment}
+use Rattle.container_layout.specs.declared.Tables.{Tables}
+use Rattle.container_layout.specs.declared.Stretch.{Stretch}
+use Rattle.container_layout.specs.declared.Stretch.the-variants as stretch
+use Rattle.lookup_scan.specs.declared.Hit.{Hit}
+use Rattle.lookup_scan.specs.declared.Hit.the-variants as hit
+use Rattle.lookup.specs.declared.Reason.{Reason}
+use Rattle.lookup.specs.declared.Reason.the-variants.{StaleLength, NoTree, ZeroModulus, NoEntry, TooFewSegments, Answered}
 
--- the numbers of document 01's table
-abbrev pub numberOf : Why → ℕ
-numberOf Absent = 0
-numberOf ZeroModulus = 10
-numberOf BadRecord = 11
+-- the segment that a form names, of entry i
+abbrev pub bySegment : ℕ → ℕ → Stretch → Reason
+bySegment i form (stretch.At start len) = Answered i form start len
+bySegment i form stretch.Outside = TooFewSegments i
 
-abbrev pub number : Answer → ℕ
-number (Segment i form start len) = 0
-number (Id why) = numberOf why
-number (PluralId why) = numberOf why
-
--- the segment that a form names, or else the fallback
-abbrev pub segmentOr : Answer → ℕ → ℕ → Stretch → Answer
-segmentOr other i form (stretch.At start len) = Segment i form start len
-segmentOr other i form stretch.Outside = other
-
-abbrev pub formOr : Answer → List ℕ → ℕ → Hit → Answer
-formOr other s form (hit.At i start len) = segmentOr other i form (segment s start len form)
-formOr other s form hit.Missing = other
-
--- a lookup without a count
-unfoldable pub singular : List ℕ → Tables → List ℕ → Answer
-unfolding lastWith
-singular s t key = elim (eqb (length s) (t .length)) [ true ↦ formOr (Id Absent) s 0 (lastWith s t key) | false ↦ Id BadRecord ]
-
--- with a count the fallback is the id for 1, and the plural id otherwise
-abbrev pub fallback : ℕ → Why → Answer
-fallback n why = elim (eqb n 1) [ true ↦ Id why | false ↦ PluralId why ]
+-- of the entry with the key, if there is one
+abbrev pub byEntry : List ℕ → ℕ → Hit → Reason
+byEntry s form (hit.At i start len) = bySegment i form (segment s start len form)
+byEntry s form hit.Missing = NoEntry
 
 -- the rule is resolved before the key is sought
-abbrev pub byForm : List ℕ → Tables → List ℕ → ℕ → Resolved → Answer
-byForm s t key n (resolved.Form form) = formOr (fallback n Absent) s form (lastWith s t key)
-byForm s t key n resolved.ZeroModulus = fallback n ZeroModulus
-byForm s t key n resolved.NoTree = fallback n BadRecord
+abbrev pub byRule : List ℕ → Resolved → Hit → Reason
+byRule s (resolved.Form form) h = byEntry s form h
+byRule s resolved.ZeroModulus h = ZeroModulus
+byRule s resolved.NoTree h = NoTree
 
-unfoldable pub plural : List ℕ → Tables → Pool → ℕ → ℕ → List ℕ → ℕ → Answer
-unfolding lastWith
-plural s t P nodes root key n =
-    elim (eqb (length s) (t .length)) [ true ↦ byForm s t key n (resolvedOf P nodes root n) | false ↦ fallback n BadRecord ]
+-- a lookup with a count, by the rule's value there
+unfoldable pub plural : List ℕ → Tables → Resolved → Hit → Reason
+plural s t v h = elim (eqb (length s) (t .length)) [ true ↦ byRule s v h | false ↦ StaleLength ]
+
+-- without a count the form is 0
+abbrev pub singular : List ℕ → Tables → Hit → Reason
+singular s t h = plural s t (resolved.Form 0) h
+
+-- the number of a reason
+abbrev pub number : Reason → ℕ
+number StaleLength = numberOf error.BadRecord
+number NoTree = numberOf error.BadRecord
+number ZeroModulus = numberOf error.ZeroModulus
+number NoEntry = 0
+number (TooFewSegments i) = 0
+number (Answered i form start len) = 0

@@ -1,66 +1,59 @@
-// Lookups: which text answers. From lib.rs: `gettext`, `ngettext`, `pgettext` and `npgettext`; nothing is copied.
-use keys::Hit;
-use keys::Tables;
-use layout::Stretch;
+// Lookups: why a lookup answers as it does, and which text answers. From lib.rs: `gettext`, `ngettext`, `pgettext` and `npgettext`; nothing
+// is copied. What follows from the entry with the key is said once, however that entry is found.
+use container_layout::Stretch;
+use container_layout::Tables;
+use lookup_scan::Hit;
+use refusal::Error;
 use rules::Resolved;
 ghost use mathlib.Core.Path.{_≡_};
 ghost use Rattle.rules.specs.Pool.{pool};
-ghost use Rattle.keys.specs.Keys.{keyOf, lastWith};
-ghost use Rattle.lookup.specs.Lookup.{singular, fallback, plural};
-ghost use Rattle.lookup.specs.Seek.{segmentIn};
-ghost use Rattle.lookup.specs.Text.{IsText};
+ghost use Rattle.rules.specs.Answer.{resolvedOf};
+ghost use Rattle.lookup_scan.specs.Keys.{keyOf, lastWith};
+ghost use Rattle.lookup.specs.Lookup.{byEntry, singular, plural, number};
+ghost use Rattle.lookup.specs.Text.{textOr, singularText, pluralText, IsText};
 
-// Why the caller's own text is the answer.
-pub enum Why {
-    Absent,
+// Why a lookup answers as it does, the first of these that holds: the file's length is not the record's; the rule's nodes are no tree; the
+// rule takes a remainder by zero; no entry has the key; the entry stores no segment of that form; the entry, the form, and the segment's
+// start and length.
+pub enum Reason {
+    StaleLength,
+    NoTree,
     ZeroModulus,
-    BadRecord,
+    NoEntry,
+    TooFewSegments(usize),
+    Answered(usize, u64, usize, usize),
 }
 
-// The text that answers: a segment of the file (its entry, its form, its start and its length), the caller's id or plural id.
-pub enum Answer {
-    Segment(usize, u64, usize, usize),
-    Id(Why),
-    PluralId(Why),
+// The text that answers: a segment of the file, its start and its length, or the caller's id or plural id.
+pub enum Text {
+    Segment(usize, usize),
+    Id,
+    PluralId,
 }
 
-// The segment that a form names in the last entry with the key: the entry, the segment's start and its length.
-fn seek(file: &[u8], t: Tables, given: bool, context: &[u8], id: &[u8], form: u64) -> Hit
-    ensures { λ r. ⌜ r ≡ segmentIn (now (file .entry)) form (lastWith (now (file .entry)) t (keyOf given (now (context .entry)) (now (id .entry)))) ⌝ }
+// What follows from the entry with the key: the segment that a form names.
+fn by_entry(file: &[u8], hit: Hit, form: u64) -> Reason
+    ensures { λ r. ⌜ r ≡ byEntry (now (file .entry)) form hit ⌝ }
 {
-    let hit = keys::last_hit(file, t, given, context, id);
     let Hit::At(entry, start, len) = hit else {
-        return Hit::Missing;
+        return Reason::NoEntry;
     };
-    let segment = entries::segment_at(file, start, len, form);
+    let segment = container_layout::segment_at(file, start, len, form);
     let Stretch::At(at, n) = segment else {
-        return Hit::Missing;
+        return Reason::TooFewSegments(entry);
     };
-    Hit::At(entry, at, n)
+    Reason::Answered(entry, form, at, n)
 }
 
 // A lookup without a count: `gettext`, and with a context `pgettext`.
-pub fn find(file: &[u8], t: Tables, given: bool, context: &[u8], id: &[u8]) -> Answer
-    ensures { λ r. ⌜ r ≡ singular (now (file .entry)) t (keyOf given (now (context .entry)) (now (id .entry))) ⌝ }
+pub fn find(file: &[u8], t: Tables, given: bool, context: &[u8], id: &[u8]) -> Reason
+    ensures { λ r. ⌜ r ≡ singular (now (file .entry)) t (lastWith (now (file .entry)) t (keyOf given (now (context .entry)) (now (id .entry)))) ⌝ }
 {
     if file.len() != t.length {
-        return Answer::Id(Why::BadRecord);
+        return Reason::StaleLength;
     }
-    let hit = seek(file, t, given, context, id, 0);
-    let Hit::At(entry, start, len) = hit else {
-        return Answer::Id(Why::Absent);
-    };
-    Answer::Segment(entry, 0, start, len)
-}
-
-// The id for one, and the plural id otherwise.
-fn fall_back(n: u64, why: Why) -> Answer
-    ensures { λ r. ⌜ r ≡ fallback n why ⌝ }
-{
-    if n == 1 {
-        return Answer::Id(why);
-    }
-    Answer::PluralId(why)
+    let hit = lookup_scan::last_hit(file, t, given, context, id);
+    by_entry(file, hit, 0)
 }
 
 // A lookup with a count: `ngettext`, and with a context `npgettext`. The rule is resolved before the key is sought.
@@ -76,34 +69,72 @@ pub fn nfind<'a, 'b>(
     context: &'a [u8],
     id: &'a [u8],
     n: u64,
-) -> Answer
-    ensures { λ r. ⌜ r ≡ plural (now (file .entry)) t (pool (now (codes .entry)) (now (places .entry)) (now (values .entry))) nodes root
-        (keyOf given (now (context .entry)) (now (id .entry))) n ⌝ }
+) -> Reason
+    ensures { λ r. ⌜ r ≡ plural (now (file .entry)) t (resolvedOf (pool (now (codes .entry)) (now (places .entry)) (now (values .entry))) nodes root n)
+        (lastWith (now (file .entry)) t (keyOf given (now (context .entry)) (now (id .entry)))) ⌝ }
 {
     if t.length != file.len() {
-        return fall_back(n, Why::BadRecord);
+        return Reason::StaleLength;
     }
-    let resolved = resolve::resolve(codes, places, values, nodes, root, n);
+    let resolved = rules_value::resolve(codes, places, values, nodes, root, n);
     match resolved {
         Resolved::Form(form) => {
-            let hit = seek(file, t, given, context, id, form);
-            let Hit::At(entry, start, len) = hit else {
-                return fall_back(n, Why::Absent);
-            };
-            Answer::Segment(entry, form, start, len)
+            let hit = lookup_scan::last_hit(file, t, given, context, id);
+            by_entry(file, hit, form)
         }
-        Resolved::ZeroModulus => fall_back(n, Why::ZeroModulus),
-        Resolved::NoTree => fall_back(n, Why::BadRecord),
+        Resolved::ZeroModulus => Reason::ZeroModulus,
+        Resolved::NoTree => Reason::NoTree,
     }
 }
 
-// The text that an answer names: a part of the file, or the caller's own id or plural id. A segment that does not lie in the file, as
-// no lookup in it answers, is the id.
-pub fn text_of<'a>(file: &'a [u8], id: &'a [u8], plural_id: &'a [u8], answer: Answer) -> &'a [u8]
-    ensures { λ r. ⌜ IsText (file .entry) (id .entry) («plural_id» .entry) answer r ⌝ }
+// Document 01's number.
+pub fn number_of(reason: Reason) -> u32
+    ensures { λ r. ⌜ r ≡ number reason ⌝ }
 {
-    match answer {
-        Answer::Segment(entry, form, start, len) => {
+    match reason {
+        Reason::StaleLength => refusal::number_of(Error::BadRecord),
+        Reason::NoTree => refusal::number_of(Error::BadRecord),
+        Reason::ZeroModulus => refusal::number_of(Error::ZeroModulus),
+        Reason::NoEntry => 0,
+        Reason::TooFewSegments(entry) => 0,
+        Reason::Answered(entry, form, start, len) => 0,
+    }
+}
+
+// The segment, or else the caller's own text.
+fn text_or(reason: Reason, own: Text) -> Text
+    ensures { λ r. ⌜ r ≡ textOr own reason ⌝ }
+{
+    let Reason::Answered(entry, form, start, len) = reason else {
+        return own;
+    };
+    Text::Segment(start, len)
+}
+
+// Without a count the caller's own text is the id.
+pub fn singular_text(reason: Reason) -> Text
+    ensures { λ r. ⌜ r ≡ singularText reason ⌝ }
+{
+    text_or(reason, Text::Id)
+}
+
+// With a count it is the id for one, and the plural id otherwise.
+pub fn plural_text(reason: Reason, n: u64) -> Text
+    ensures { λ r. ⌜ r ≡ pluralText n reason ⌝ }
+{
+    if n == 1 {
+        return text_or(reason, Text::Id);
+    }
+    text_or(reason, Text::PluralId)
+}
+
+// That text itself: a part of the file, or what the caller lent. A segment that does not lie in the file, as no lookup in it answers, is
+// the id.
+pub fn text_of<'a>(file: &'a [u8], id: &'a [u8], plural_id: &'a [u8], text: Text) -> &'a [u8]
+    ensures { λ r. ⌜ IsText (file .entry) (id .entry) («plural_id» .entry) text r ⌝ }
+{
+    match text {
+        Text::Segment(start, len) => {
             if file.len() < start {
                 return id;
             }
@@ -113,7 +144,7 @@ pub fn text_of<'a>(file: &'a [u8], id: &'a [u8], plural_id: &'a [u8], answer: An
             let end = start + len;
             &file[start..end]
         }
-        Answer::Id(why) => id,
-        Answer::PluralId(why) => plural_id,
+        Text::Id => id,
+        Text::PluralId => plural_id,
     }
 }

@@ -1,4 +1,4 @@
 // Writes how many entries the catalog on standard input has, and the range of its rule.
 fn main() {
-    summary::run(0);
+    mo_report::run(0);
 }

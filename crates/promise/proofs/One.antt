@@ -10,3 +10,9 @@ use borrow.Fn.Kinds.{PK, RK, Out, Dens, resT, endedOf}
 abbrev pub One : (n : ℕ) (ps : List (PK n)) (r : RK n) → Out n ps r → Type 0
 One n ps r Post =
     (κs : Lfts n) (a : Dens κs ps) (u v : resT r κs .Denot) (x y : AtExit (endedOf n ps r) κs) → Post κs a u x → Post κs a v y → u ≡ v
+
+-- the same of a function that writes: the result, and what `left` reads off lent memory at exit
+abbrev pub OneLeft : (n : ℕ) (ps : List (PK n)) (r : RK n) → Out n ps r → {T : Type 0} → ((κs : Lfts n) → AtExit (endedOf n ps r) κs → T) → Type 0
+OneLeft n ps r Post left =
+    (κs : Lfts n) (a : Dens κs ps) (u v : resT r κs .Denot) (x y : AtExit (endedOf n ps r) κs) → Post κs a u x → Post κs a v y
+    → (u ≡ v) × (left κs x ≡ left κs y)

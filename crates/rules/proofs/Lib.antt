@@ -6,6 +6,7 @@ pub mod Answers
 pub mod Stored
 pub mod StoredTree
 pub mod Forms
+pub mod Fits
 pub mod ReadOnce
 pub mod Unique
 mod Cases

@@ -20,3 +20,7 @@ pub data Tree : Type 0 where
 pub data Reading : Type 0 where
   tree : Tree → Reading
   none : Reading
+
+-- the rule of a catalog without one: n != 1
+abbrev pub defaultTree : Tree
+defaultTree = bin (cmp ne) var (int 1)

@@ -4,9 +4,9 @@
 ghost use mathlib.Core.Path.{_≡_};
 ghost use Prim.Native.Nat.{_+_, _<_, _*_};
 ghost use lib.ListN.{getD};
-ghost use Rattle.rules.specs.Tree.{bin, var, int, cmp, ne};
+ghost use Rattle.rules.specs.Tree.{defaultTree};
 ghost use Rattle.rules.specs.Pool.{pool};
-ghost use Rattle.rules.specs.Store.{push, store, blank};
+ghost use Rattle.rules.specs.Store.{push, size, store, blank};
 
 // The codes of nodes.
 pub mod node;
@@ -53,14 +53,6 @@ pub enum Fit {
     NoTree,
 }
 
-// A rule by value: its nodes are the first `count` places, the last of them the root.
-pub struct Rule {
-    pub codes: [u8; 512],
-    pub places: [u16; 1536],
-    pub values: [u64; 512],
-    pub count: usize,
-}
-
 // Puts a node at place k: its code, its operands' places and the value of an integer.
 pub fn put(
     codes: &mut [u8; 512],
@@ -84,43 +76,22 @@ pub fn put(
     values[k] = value;
 }
 
-// The rule of a catalog without one: n != 1.
-pub fn default_rule() -> Rule
-    ensures nodes { λ r. ⌜ pool (r .codes) (r .places) (r .values) ≡ store (bin (cmp ne) var (int 1)) 0 blank ⌝ }
-    ensures count { λ r. ⌜ r .count ≡ 3 ⌝ }
+// The rule of a catalog without one, n != 1, alone in the arrays; how many nodes it has.
+pub fn put_default(
+    codes: &mut [u8; 512],
+    places: &mut [u16; 1536],
+    values: &mut [u64; 512],
+) -> usize
+    ensures nodes { λ r. ⌜ pool (now (codes .exit)) (now (places .exit)) (now (values .exit)) ≡ store defaultTree 0 blank ⌝ }
+    ensures count { λ r. ⌜ r ≡ size defaultTree ⌝ }
 {
-    let mut codes = [0u8; 512];
-    let mut places = [0u16; 1536];
-    let mut values = [0u64; 512];
-    put(&mut codes, &mut places, &mut values, 0, node::N, 0, 0, 0, 0);
-    put(
-        &mut codes,
-        &mut places,
-        &mut values,
-        1,
-        node::INTEGER,
-        0,
-        0,
-        0,
-        1,
-    );
-    put(
-        &mut codes,
-        &mut places,
-        &mut values,
-        2,
-        node::NOT_EQUAL,
-        0,
-        1,
-        0,
-        0,
-    );
-    Rule {
-        codes,
-        places,
-        values,
-        count: 3,
-    }
+    *codes = [0u8; 512];
+    *places = [0u16; 1536];
+    *values = [0u64; 512];
+    put(codes, places, values, 0, node::N, 0, 0, 0, 0);
+    put(codes, places, values, 1, node::INTEGER, 0, 0, 0, 1);
+    put(codes, places, values, 2, node::NOT_EQUAL, 0, 1, 0, 0);
+    3
 }
 
 // The place of operand j of the node at a place.

@@ -1,13 +1,13 @@
 -- The bytes of a set at the front of a text, as a loop counts them. Assumes nothing.
-use Prim.Native.Nat.{ℕ, suc, _+_, _<_, _≤_}
+use Prim.Native.Nat.{ℕ, zero, suc, _+_, _-_, _<_, _≤_}
 use mathlib.Core.Path.{_≡_, refl, ap, _∙_}
 use mathlib.Core.Bool.{Bool, true, false}
 use mathlib.Core.List.{List, [], _∷_}
 use native.Mathlib.Omega.{arith}
-use lib.ListN.{length, getD, drop}
+use lib.ListN.{length, getD, drop, length-drop}
 use lib.Seq.{drop-drop}
-use Rattle.text.specs.Trim.{front}
-pub use Rattle.text.specs.Promise.{Counted}
+use Rattle.text.specs.Bytes.{front}
+pub use Rattle.text.specs.Private.{Counted}
 use Rattle.text.proofs.Tests.{taken, left, by-test}
 use Rattle.text.proofs.Walk.{rest-at, rest-end}
 
@@ -24,6 +24,34 @@ pub front-length : (w : ℕ → Bool) (s : List ℕ) → front w s ≤ length s
 unfolding front
 front-length w [] = omega arith
 front-length w (b ∷ s) = by-test (front w (b ∷ s) ≤ length (b ∷ s)) (w b) (λ e. omega (arith, front-in w b s e, front-length w s)) (λ e. omega (arith, front-out w b s e))
+
+-- a byte that is not of the set bounds their number; one that is, next to them, makes it larger
+module _ (w : ℕ → Bool) where
+  pub front-most : (s : List ℕ) (k : ℕ) → k < length s → w (getD s k 0) ≡ false → front w s ≤ k
+  front-most [] k h e = absurd (omega arith)
+  front-most (b ∷ s) zero h e = omega (arith, front-out w b s e)
+  front-most (b ∷ s) (suc k) h e =
+      by-test (front w (b ∷ s) ≤ suc k) (w b)
+      (λ t. omega (arith, front-in w b s t, front-most s k (omega arith) e))
+      (λ t. omega (arith, front-out w b s t))
+
+  pub front-least : (s : List ℕ) (k : ℕ) → k < length s → w (getD s k 0) ≡ true → k ≤ front w s → k + 1 ≤ front w s
+  front-least [] k h e l = absurd (omega arith)
+  front-least (b ∷ s) zero h e l = omega (arith, front-in w b s e)
+  front-least (b ∷ s) (suc k) h e l =
+      by-test (suc k + 1 ≤ front w (b ∷ s)) (w b)
+      (λ t. let f = front-in w b s t in omega (arith, f, front-least s k (omega arith) e (omega (arith, f))))
+      (λ t. absurd (omega (arith, front-out w b s t)))
+
+  -- the bytes after some of them
+  pub front-after : (s : List ℕ) (k : ℕ) → k ≤ front w s → front w s ≡ k + front w (drop k s)
+  unfolding front
+  front-after s zero h = omega arith
+  front-after [] (suc k) h = absurd (omega arith)
+  front-after (b ∷ s) (suc k) h =
+      by-test (front w (b ∷ s) ≡ suc k + front w (drop k s)) (w b)
+      (λ t. let f = front-in w b s t in omega (arith, f, front-after s k (omega (arith, f))))
+      (λ t. absurd (omega (arith, front-out w b s t)))
 
 module _ (w : ℕ → Bool) (s : List ℕ) (at i : ℕ) where
   none-left : length s ≤ i → front w (drop i s) ≡ 0
@@ -45,17 +73,23 @@ module _ (w : ℕ → Bool) (s : List ℕ) (at i : ℕ) where
   pub counted-more : i < length s → w (getD s i 0) ≡ true → Counted w s at i → Counted w s at (i + 1)
   counted-more h f e = omega (arith, goes h f)
 
--- four bytes of the set
-pub four-in : (w : ℕ → Bool) (s : List ℕ) (i : ℕ) → i + 4 ≤ length s → w (getD s i 0) ≡ true → w (getD s (i + 1) 0) ≡ true
-    → w (getD s (i + 2) 0) ≡ true → w (getD s (i + 3) 0) ≡ true → Counted w s i (i + 4)
-four-in w s i h p q r t =
-    let e : i + 1 + 1 ≡ i + 2 = omega arith in
-    let f : i + 2 + 1 ≡ i + 3 = omega arith in
-    let g : i + 3 + 1 ≡ i + 4 = omega arith in
-    let one : Counted w s i (i + 1) = counted-more w s i i (omega arith) p refl in
-    let two : Counted w s i (i + 2) = rw (e) at (counted-more w s i (i + 1) (omega arith) q one) in
-    let three : Counted w s i (i + 3) = rw (f) at (counted-more w s i (i + 2) (omega arith) r two) in
-    rw (g) at (counted-more w s i (i + 3) (omega arith) t three)
+-- from a place between them on as from the first
+pub counted-within : (w : ℕ → Bool) (s : List ℕ) (from i j : ℕ) → Counted w s from i → from ≤ j → j ≤ i → Counted w s from j
+counted-within w s from i j e h l =
+    let f = front-after w (drop from s) (j - from) (omega (arith, e)) in
+    let z : from + (j - from) ≡ j = omega arith in
+    let d : drop (j - from) (drop from s) ≡ drop j s = drop-drop (j - from) from s ∙ ap (λ (k : ℕ). drop k s) z in
+    omega (arith, rw d at f)
+
+-- so many bytes of the set more
+pub counted-on : (w : ℕ → Bool) (s : List ℕ) (from i k : ℕ) → Counted w s from i → k ≤ front w (drop i s) → Counted w s from (i + k)
+counted-on w s from i k e h = omega (arith, rw (drop-drop k i s) at (front-after w (drop i s) k h))
+
+-- the last k bytes are of the set, and the bytes before them
+pub counted-last : (w : ℕ → Bool) (s : List ℕ) (from i k : ℕ) → Counted w s from i → from + k ≤ length s → length s ≤ i + k
+    → k ≤ front w (drop (length s - k) s) → length s ≡ from + front w (drop from s)
+counted-last w s from i k e h l f =
+    omega (arith, counted-within w s from i (length s - k) e (omega arith) (omega arith), front-length w (drop (length s - k) s), length-drop (length s - k) s)
 
 -- bytes of a smaller set at the front are of the set
 narrow : (w v : ℕ → Bool) → ((b : ℕ) → v b ≡ true → w b ≡ true) → (s : List ℕ) → front w s ≡ front v s + front w (drop (front v s) s)

@@ -1,8 +1,13 @@
 pub mod Tests
 pub mod Walk
 pub mod Front
+pub mod Flags
+pub mod All
 pub mod Bounds
 pub mod Cuts
 pub mod Placed
 pub mod Parts
+pub mod Same
+pub mod Sought
 pub mod Unique
+pub mod Cases

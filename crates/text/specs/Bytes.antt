@@ -5,7 +5,8 @@ use Prim.Native.String as Str
 use mathlib.Core.Bool.{Bool, true, false, not, _&&_}
 use mathlib.Core.List.{List, [], _∷_}
 use lib.Dec.{leb, eqb}
-use Rattle.text.specs.Trim.{front}
+use Rattle.text.specs.declared.Case.{Case}
+use Rattle.text.specs.declared.Case.the-variants.{AsWritten, Small}
 use Rattle.text.specs.declared.Found.{Found}
 use Rattle.text.specs.declared.Found.the-variants.{At, Nowhere}
 
@@ -17,6 +18,20 @@ bytes (Str.String._∷_ c s) = code c ∷ bytes s
 -- a byte is one of those from one to another, both included
 abbrev pub within : ℕ × ℕ → ℕ → Bool
 within r b = leb (r .0) b && leb b (r .1)
+
+-- every byte is in the set
+unfoldable pub all : (ℕ → Bool) → List ℕ → Bool
+all w [] = true
+all w (b ∷ s) = w b && all w s
+
+-- how many bytes of the set stand at the front
+unfoldable pub front : (ℕ → Bool) → List ℕ → ℕ
+front w [] = 0
+front w (b ∷ s) = elim (w b) [ true ↦ suc (front w s) | false ↦ 0 ]
+
+-- the first place of a byte, or the text's length: how many other bytes stand at the front
+abbrev pub place : ℕ → List ℕ → ℕ
+place x s = front (λ b. not (eqb b x)) s
 
 -- the two texts are the same
 unfoldable pub same : List ℕ → List ℕ → Bool
@@ -41,10 +56,11 @@ unfolding begins
 first p [] = elim (begins p []) [ true ↦ At 0 | false ↦ Nowhere ]
 first p (b ∷ s) = elim (begins p (b ∷ s)) [ true ↦ At 0 | false ↦ next (first p s) ]
 
--- the first place of a byte, or the text's length: how many other bytes stand at the front
-abbrev pub place : ℕ → List ℕ → ℕ
-place x s = front (λ b. not (eqb b x)) s
-
 -- A to Z as a to z, every other byte as it is
 abbrev pub small : ℕ → ℕ
 small b = elim (leb 65 b && leb b 90) [ true ↦ b + 32 | false ↦ b ]
+
+-- a byte as it is read
+abbrev pub read : Case → ℕ → ℕ
+read AsWritten b = b
+read Small b = small b

@@ -1,4 +1,3 @@
-pub mod Trim
 pub mod Bytes
 pub mod Cut
-pub mod Promise
+pub mod Private

@@ -1,27 +1,16 @@
-// Texts of bytes: the small questions that the layers above share, and what the crates `trim` and `compare` answer by. Not in the Rust,
-// which has them from std.
+// Texts of bytes: the small questions that the layers above share. How far bytes within bounds go on, where a byte stands first; whether
+// texts are the same, as written or in small letters, and where one stands in another. Not in the Rust, which has them from std.
 ghost use mathlib.Core.Path.{_≡_};
+ghost use mathlib.Core.List.{map};
 ghost use Prim.Native.Nat.{_+_, _≤_};
 ghost use lib.ListN.{length, drop};
-ghost use Rattle.text.specs.Trim.{front};
-ghost use Rattle.text.specs.Bytes.{within, place};
-ghost use Rattle.text.specs.Promise.{Outside, Four, Counted};
-
-// The bytes that are trimmed: header names, values and rules of six, a charset label of five.
-pub enum Set {
-    Six,
-    Label,
-}
-
-// Where a pattern stands first.
-pub enum Found {
-    At(usize),
-    Nowhere,
-}
+ghost use lib.Dec.{leb};
+ghost use Rattle.text.specs.Bytes.{within, all, front, place, same, begins, first, small, read};
+ghost use Rattle.text.specs.Private.{inRun, Flags, Blocks};
 
 // 1 for a byte that is not within the bounds.
 fn outside(b: u8, lo: u8, hi: u8) -> u8
-    ensures { λ r. ⌜ Outside (lo, hi) b r ⌝ }
+    ensures { λ r. ⌜ Flags (within (lo, hi)) b r ⌝ }
 {
     if b < lo {
         return 1;
@@ -32,28 +21,72 @@ fn outside(b: u8, lo: u8, hi: u8) -> u8
     0
 }
 
-// Whether four bytes are all within the bounds. They are added up and not tested one by one, so that the machine takes them at once.
-fn four_within(s: &[u8], i: usize, lo: u8, hi: u8) -> bool
-    requires { ⌜ i + 4 ≤ length (now s) ⌝ }
-    ensures { λ r. ⌜ Four (lo, hi) (now (s .entry)) i r ⌝ }
-{
-    outside(s[i], lo, hi)
-        + outside(s[i + 1], lo, hi)
-        + outside(s[i + 2], lo, hi)
-        + outside(s[i + 3], lo, hi)
-        == 0
+// What a run is made of: bytes within the bounds, or bytes that are not.
+enum Run {
+    Within,
+    Without,
 }
 
-// Past as many blocks of four bytes within the bounds as there are.
-fn blocks_within(s: &[u8], from: usize, lo: u8, hi: u8) -> usize
+// 1 for a byte that ends the run.
+fn ends(b: u8, lo: u8, hi: u8, run: Run) -> u8
+    ensures { λ r. ⌜ Flags (inRun run (lo, hi)) b r ⌝ }
+{
+    match run {
+        Run::Within => outside(b, lo, hi),
+        Run::Without => 1 - outside(b, lo, hi),
+    }
+}
+
+// Whether a block of 16 bytes goes on with the run. The flags are gathered by a loop of fixed length and not tested one by one, so that
+// the machine takes the block at once.
+fn block(s: &[u8], i: usize, lo: u8, hi: u8, run: Run) -> bool
+    requires { ⌜ i + 16 ≤ length (now s) ⌝ }
+    ensures { λ r. ⌜ r ≡ leb 16 (front (inRun run (lo, hi)) (drop i (now (s .entry)))) ⌝ }
+{
+    let mut z: u8 = 0;
+    let mut k = 0;
+    while k < 16 {
+        z = z | ends(s[i + k], lo, hi, run);
+        k += 1;
+    }
+    z == 0
+}
+
+// Past as many blocks of the run as there are.
+fn blocks(s: &[u8], from: usize, lo: u8, hi: u8, run: Run) -> usize
     requires { ⌜ from ≤ length (now s) ⌝ }
-    ensures { λ r. ⌜ (r ≤ length (now (s .entry))) × Counted (within (lo, hi)) (now (s .entry)) from r ⌝ }
+    ensures { λ r. ⌜ Blocks (inRun run (lo, hi)) (now (s .entry)) from r ⌝ }
 {
     let n = s.len();
     let mut i = from;
-    while 4 <= n - i {
-        if four_within(s, i, lo, hi) {
-            i += 4;
+    while 16 <= n - i {
+        if block(s, i, lo, hi, run) {
+            i += 16;
+        } else {
+            return i;
+        }
+    }
+    i
+}
+
+// Where the run ends that begins at a place.
+fn run_end(s: &[u8], from: usize, lo: u8, hi: u8, run: Run) -> usize
+    requires { ⌜ from ≤ length (now s) ⌝ }
+    ensures { λ r. ⌜ r ≡ from + front (inRun run (lo, hi)) (drop from (now (s .entry))) ⌝ }
+{
+    let n = s.len();
+    let mut i = blocks(s, from, lo, hi, run);
+    // the last block again takes in bytes that were seen, and spares the loop below where the run goes on to the end
+    if n - i < 16 {
+        if 16 <= n - from {
+            if block(s, n - 16, lo, hi, run) {
+                return n;
+            }
+        }
+    }
+    while i < n {
+        if ends(s[i], lo, hi, run) == 0 {
+            i += 1;
         } else {
             return i;
         }
@@ -68,29 +101,31 @@ pub fn span(s: &[u8], from: usize, lo: u8, hi: u8) -> usize
     if s.len() < from {
         return from;
     }
-    let mut i = blocks_within(s, from, lo, hi);
-    while i < s.len() {
-        if outside(s[i], lo, hi) == 0 {
-            i += 1;
-        } else {
-            return i;
-        }
+    run_end(s, from, lo, hi, Run::Within)
+}
+
+// Whether all bytes are within the bounds. Where they are not, nothing looks for the place.
+pub fn all_within(s: &[u8], lo: u8, hi: u8) -> bool
+    ensures { λ r. ⌜ r ≡ all (within (lo, hi)) (now (s .entry)) ⌝ }
+{
+    let n = s.len();
+    if n < 16 {
+        return run_end(s, 0, lo, hi, Run::Within) == n;
     }
-    i
+    if 16 <= n - blocks(s, 0, lo, hi, Run::Within) {
+        return false;
+    }
+    block(s, n - 16, lo, hi, Run::Within)
 }
 
 // The first place of a byte from a place on, or the text's length; past the end that place itself.
 pub fn find_byte_from(s: &[u8], at: usize, x: u8) -> usize
     ensures { λ r. ⌜ r ≡ at + place x (drop at (now (s .entry))) ⌝ }
 {
-    let mut i = at;
-    while i < s.len() {
-        if s[i] == x {
-            return i;
-        }
-        i += 1;
+    if s.len() < at {
+        return at;
     }
-    i
+    run_end(s, at, x, x, Run::Without)
 }
 
 // The first place of a byte, or the text's length.
@@ -98,4 +133,103 @@ pub fn find_byte(s: &[u8], x: u8) -> usize
     ensures { λ r. ⌜ r ≡ place x (now (s .entry)) ⌝ }
 {
     find_byte_from(s, 0, x)
+}
+
+// How the letters of a text are read.
+pub enum Case {
+    AsWritten,
+    Small,
+}
+
+// A byte with A to Z made a to z.
+fn to_small(b: u8) -> u8
+    ensures { λ r. ⌜ r ≡ small b ⌝ }
+{
+    if b < b'A' {
+        return b;
+    }
+    if b'Z' < b {
+        return b;
+    }
+    b + 32
+}
+
+fn letter(case: Case, b: u8) -> u8
+    ensures { λ r. ⌜ r ≡ read case b ⌝ }
+{
+    match case {
+        Case::AsWritten => b,
+        Case::Small => to_small(b),
+    }
+}
+
+// Whether the text, its letters read so, begins with the pattern.
+fn begins_so(s: &[u8], pattern: &[u8], case: Case) -> bool
+    ensures { λ r. ⌜ r ≡ begins (now (pattern .entry)) (map (read case) (now (s .entry))) ⌝ }
+{
+    if s.len() < pattern.len() {
+        return false;
+    }
+    let mut i = 0;
+    while i < pattern.len() {
+        if letter(case, s[i]) != pattern[i] {
+            return false;
+        }
+        i += 1;
+    }
+    true
+}
+
+// Whether the text begins with the pattern.
+pub fn starts_with(s: &[u8], pattern: &[u8]) -> bool
+    ensures { λ r. ⌜ r ≡ begins (now (pattern .entry)) (now (s .entry)) ⌝ }
+{
+    begins_so(s, pattern, Case::AsWritten)
+}
+
+// Whether the text, its letters read so, is the other text.
+fn equal_so(s: &[u8], other: &[u8], case: Case) -> bool
+    ensures { λ r. ⌜ r ≡ same (now (other .entry)) (map (read case) (now (s .entry))) ⌝ }
+{
+    if s.len() != other.len() {
+        return false;
+    }
+    begins_so(s, other, case)
+}
+
+// Whether two texts are the same.
+pub fn equal(s: &[u8], other: &[u8]) -> bool
+    ensures { λ r. ⌜ r ≡ same (now (other .entry)) (now (s .entry)) ⌝ }
+{
+    equal_so(s, other, Case::AsWritten)
+}
+
+// Whether a text in small letters is the other text.
+pub fn equal_small(s: &[u8], other: &[u8]) -> bool
+    ensures { λ r. ⌜ r ≡ same (now (other .entry)) (map (read Case.Small) (now (s .entry))) ⌝ }
+{
+    equal_so(s, other, Case::Small)
+}
+
+// Where a pattern stands first.
+pub enum Found {
+    At(usize),
+    Nowhere,
+}
+
+pub fn find(s: &[u8], pattern: &[u8]) -> Found
+    ensures { λ r. ⌜ r ≡ first (now (pattern .entry)) (now (s .entry)) ⌝ }
+{
+    let mut i = 0;
+    while i < s.len() {
+        if starts_with(&s[i..], pattern) {
+            return Found::At(i);
+        }
+        i += 1;
+    }
+    // only a pattern of no bytes stands at the end
+    if pattern.len() == 0 {
+        return Found::At(i);
+    }
+    Found::Nowhere
 }

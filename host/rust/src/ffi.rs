@@ -2,43 +2,43 @@
 //! wrapped once, so that the rest of the crate calls safe functions.
 //!
 //! What makes every call here safe: the library asks nothing of the values that it is given (its functions have no `requires`), reads
-//! what is lent and writes nothing lent, keeps no pointer and has no state. A slice goes as pointer and length, an array as a pointer;
+//! what is lent to be read and writes a record's arrays alone, in a load, keeps no pointer and has no state. A slice goes as pointer and length, an array as a pointer;
 //! a Rust slice's pointer is never null.
 
 use std::mem::size_of;
 
-#[cfg(not(all(target_arch = "x86_64", target_pointer_width = "64")))]
-compile_error!("the static library is built for x86-64");
+#[cfg(not(any(target_arch = "x86_64", target_arch = "aarch64")))]
+compile_error!("the static library is built for x86-64, or by host/library for aarch64");
 
-/// The record without its rule: five words, which the library takes as an array of five.
+/// The head of a record: seven words, which the library takes as an array of seven.
 #[repr(C)]
 #[derive(Clone, Copy, Debug, PartialEq)]
-pub struct Tables {
+pub struct Head {
     pub length: usize,
     pub count: usize,
     pub originals: usize,
     pub translations: usize,
     pub big: usize,
+    pub nodes: usize,
+    pub root: usize,
 }
 
-/// What lookups need beside the file.
+/// What lookups need beside the file: the head, and the nodes of the rule.
 #[repr(C)]
 #[derive(Clone, Copy)]
 pub struct Record {
-    pub tables: Tables,
-    pub nodes: usize,
-    pub root: usize,
+    pub head: Head,
     pub values: [u64; 512],
     pub places: [u16; 1536],
     pub codes: [u8; 512],
 }
 
-/// A load's number and its record.
+/// A load's number and its record's head.
 #[repr(C)]
 #[derive(Clone, Copy)]
 pub struct Loaded {
     pub number: u32,
-    pub catalog: Record,
+    pub head: Head,
 }
 
 /// The text that answers: `which` 0 is the segment of the file at `start`, 1 the id, 2 the plural id.
@@ -79,17 +79,21 @@ pub struct Form {
     pub form: u64,
 }
 
-const _: () = assert!(size_of::<Tables>() == 40);
+const _: () = assert!(size_of::<Head>() == 56);
 const _: () = assert!(size_of::<Record>() == 7736);
-const _: () = assert!(size_of::<Loaded>() == 7744);
+const _: () = assert!(size_of::<Loaded>() == 64);
 const _: () = assert!(size_of::<Answer>() == 40);
 const _: () = assert!(size_of::<Rating>() == 24);
 const _: () = assert!(size_of::<Fits>() == 8);
 const _: () = assert!(size_of::<Form>() == 16);
 
 extern "C" {
-    fn gettext_rattle_empty() -> Record;
-    fn gettext_rattle_load(
+    fn gettext_c_empty(
+        codes: *mut [u8; 512],
+        places: *mut [u16; 1536],
+        values: *mut [u64; 512],
+    ) -> Loaded;
+    fn gettext_c_load(
         file: *const u8,
         file_len: usize,
         rule: *const u8,
@@ -97,88 +101,106 @@ extern "C" {
         forced: u32,
         standard: u32,
         utf8: u32,
+        codes: *mut [u8; 512],
+        places: *mut [u16; 1536],
+        values: *mut [u64; 512],
     ) -> Loaded;
-    fn gettext_rattle_gettext(
+    fn gettext_c_gettext(
         file: *const u8,
         file_len: usize,
-        tables: *const Tables,
+        head: *const Head,
         id: *const u8,
         id_len: usize,
     ) -> Answer;
-    fn gettext_rattle_pgettext(
+    fn gettext_c_pgettext(
         file: *const u8,
         file_len: usize,
-        tables: *const Tables,
+        head: *const Head,
         context: *const u8,
         context_len: usize,
         id: *const u8,
         id_len: usize,
     ) -> Answer;
-    fn gettext_rattle_ngettext(
+    fn gettext_c_ngettext(
         file: *const u8,
         file_len: usize,
-        tables: *const Tables,
+        head: *const Head,
         codes: *const [u8; 512],
         places: *const [u16; 1536],
         values: *const [u64; 512],
-        nodes: usize,
-        root: usize,
         id: *const u8,
         id_len: usize,
         n: u64,
     ) -> Answer;
-    fn gettext_rattle_npgettext(
+    fn gettext_c_npgettext(
         file: *const u8,
         file_len: usize,
-        tables: *const Tables,
+        head: *const Head,
         codes: *const [u8; 512],
         places: *const [u16; 1536],
         values: *const [u64; 512],
-        nodes: usize,
-        root: usize,
         context: *const u8,
         context_len: usize,
         id: *const u8,
         id_len: usize,
         n: u64,
     ) -> Answer;
-    fn gettext_rattle_rating(
+    fn gettext_c_rating(
+        head: *const Head,
         codes: *const [u8; 512],
         places: *const [u16; 1536],
         values: *const [u64; 512],
-        nodes: usize,
-        root: usize,
     ) -> Rating;
-    fn gettext_rattle_fits(
+    fn gettext_c_fits(
+        head: *const Head,
         codes: *const [u8; 512],
         places: *const [u16; 1536],
         values: *const [u64; 512],
-        nodes: usize,
-        root: usize,
         k: u64,
     ) -> Fits;
-    fn gettext_rattle_evaluate(
+    fn gettext_c_resolve(
+        head: *const Head,
         codes: *const [u8; 512],
         places: *const [u16; 1536],
         values: *const [u64; 512],
-        nodes: usize,
-        root: usize,
         n: u64,
     ) -> Form;
-    fn gettext_rattle_is_utf8(text: *const u8, text_len: usize) -> u32;
+    fn gettext_c_is_utf8(text: *const u8, text_len: usize) -> u32;
+    fn gettext_c_cost(file: *const u8, file_len: usize) -> u64;
 }
 
-pub fn empty() -> Record {
-    // SAFETY: it takes nothing and returns by value.
-    unsafe { gettext_rattle_empty() }
+/// A record for a load to write.
+pub fn blank() -> Box<Record> {
+    Box::new(Record {
+        head: Head {
+            length: 0,
+            count: 0,
+            originals: 0,
+            translations: 0,
+            big: 0,
+            nodes: 0,
+            root: 0,
+        },
+        values: [0; 512],
+        places: [0; 1536],
+        codes: [0; 512],
+    })
 }
 
-/// `rule` is read where it is given.
-pub fn load(file: &[u8], rule: Option<&[u8]>, standard: bool, utf8: bool) -> Loaded {
+/// The empty catalog.
+pub fn empty() -> Box<Record> {
+    let mut r = blank();
+    // SAFETY: the record's arrays live for the call, which writes them.
+    r.head = unsafe { gettext_c_empty(&mut r.codes, &mut r.places, &mut r.values) }.head;
+    r
+}
+
+/// Loads into a record and answers the number. `rule` is read where it is given.
+pub fn load(file: &[u8], rule: Option<&[u8]>, standard: bool, utf8: bool, r: &mut Record) -> u32 {
     let text = rule.unwrap_or(&[]);
-    // SAFETY: both slices live for the call and are only read.
-    unsafe {
-        gettext_rattle_load(
+    // SAFETY: both slices live for the call and are only read; the record's arrays live for the call, which writes them.
+    let loaded = unsafe {
+        gettext_c_load(
             file.as_ptr(),
             file.len(),
             text.as_ptr(),
@@ -186,22 +208,27 @@ pub fn load(file: &[u8], rule: Option<&[u8]>, standard: bool, utf8: bool) -> Loa
             u32::from(rule.is_some()),
             u32::from(standard),
             u32::from(utf8),
+            &mut r.codes,
+            &mut r.places,
+            &mut r.values,
         )
-    }
+    };
+    r.head = loaded.head;
+    loaded.number
 }
 
 pub fn gettext(file: &[u8], r: &Record, id: &[u8]) -> Answer {
     // SAFETY: both slices live for the call and are only read.
-    unsafe { gettext_rattle_gettext(file.as_ptr(), file.len(), &r.tables, id.as_ptr(), id.len()) }
+    unsafe { gettext_c_gettext(file.as_ptr(), file.len(), &r.head, id.as_ptr(), id.len()) }
 }
 
 pub fn pgettext(file: &[u8], r: &Record, context: &[u8], id: &[u8]) -> Answer {
     // SAFETY: the three slices live for the call and are only read.
     unsafe {
-        gettext_rattle_pgettext(
+        gettext_c_pgettext(
             file.as_ptr(),
             file.len(),
-            &r.tables,
+            &r.head,
             context.as_ptr(),
             context.len(),
             id.as_ptr(),
@@ -213,15 +240,13 @@ pub fn pgettext(file: &[u8], r: &Record, context: &[u8], id: &[u8]) -> Answer {
 pub fn ngettext(file: &[u8], r: &Record, id: &[u8], n: u64) -> Answer {
     // SAFETY: the slices and the record's arrays live for the call and are only read.
     unsafe {
-        gettext_rattle_ngettext(
+        gettext_c_ngettext(
             file.as_ptr(),
             file.len(),
-            &r.tables,
+            &r.head,
             &r.codes,
             &r.places,
             &r.values,
-            r.nodes,
-            r.root,
             id.as_ptr(),
             id.len(),
             n,
@@ -232,15 +257,13 @@ pub fn ngettext(file: &[u8], r: &Record, id: &[u8], n: u64) -> Answer {
 pub fn npgettext(file: &[u8], r: &Record, context: &[u8], id: &[u8], n: u64) -> Answer {
     // SAFETY: the slices and the record's arrays live for the call and are only read.
     unsafe {
-        gettext_rattle_npgettext(
+        gettext_c_npgettext(
             file.as_ptr(),
             file.len(),
-            &r.tables,
+            &r.head,
             &r.codes,
             &r.places,
             &r.values,
-            r.nodes,
-            r.root,
             context.as_ptr(),
             context.len(),
             id.as_ptr(),
@@ -252,20 +275,25 @@ pub fn npgettext(file: &[u8], r: &Record, context: &[u8], id: &[u8], n: u64) -> 
 
 pub fn rating(r: &Record) -> Rating {
     // SAFETY: the record's arrays live for the call and are only read.
-    unsafe { gettext_rattle_rating(&r.codes, &r.places, &r.values, r.nodes, r.root) }
+    unsafe { gettext_c_rating(&r.head, &r.codes, &r.places, &r.values) }
 }
 
 pub fn fits(r: &Record, k: u64) -> Fits {
     // SAFETY: the record's arrays live for the call and are only read.
-    unsafe { gettext_rattle_fits(&r.codes, &r.places, &r.values, r.nodes, r.root, k) }
+    unsafe { gettext_c_fits(&r.head, &r.codes, &r.places, &r.values, k) }
 }
 
-pub fn evaluate(r: &Record, n: u64) -> Form {
+pub fn resolve(r: &Record, n: u64) -> Form {
     // SAFETY: the record's arrays live for the call and are only read.
-    unsafe { gettext_rattle_evaluate(&r.codes, &r.places, &r.values, r.nodes, r.root, n) }
+    unsafe { gettext_c_resolve(&r.head, &r.codes, &r.places, &r.values, n) }
 }
 
 pub fn is_utf8(text: &[u8]) -> bool {
     // SAFETY: the slice lives for the call and is only read.
-    unsafe { gettext_rattle_is_utf8(text.as_ptr(), text.len()) != 0 }
+    unsafe { gettext_c_is_utf8(text.as_ptr(), text.len()) != 0 }
+}
+
+pub fn cost(file: &[u8]) -> u64 {
+    // SAFETY: the slice lives for the call and is only read.
+    unsafe { gettext_c_cost(file.as_ptr(), file.len()) }
 }

@@ -1,8 +1,15 @@
 //! Small files and rules: document 01's F and G with their variants, every refusal that a file can get, and the lookups over files made
 //! here.
 
-use gettext_rattle::{is_utf8, Catalog, Error, ParseOptions, Reading, Which};
+use gettext_rattle::{cost, is_utf8, Catalog, Error, ParseOptions, Reading, Status, Which};
+use std::collections::HashMap;
+use std::fs::File;
+use std::io::{self, Read};
 use std::mem::size_of;
+use std::sync::Arc;
+
+/// The example's German catalog.
+const DE: &str = concat!(env!("CARGO_MANIFEST_DIR"), "/../../examples/de.mo");
 
 /// Document 01's file F: one entry, "a" translated as "b".
 const F: [u8; 48] = [
@@ -69,39 +76,39 @@ fn headed(header: &[u8]) -> Vec<u8> {
 }
 
 fn refusal(file: &[u8]) -> Option<Error> {
-    Catalog::parse(file).err()
+    Catalog::parse_slice(file).err()
 }
 
-fn read(rule: &str, reading: Reading) -> Result<Catalog<'static>, Error> {
+fn read(rule: &str, reading: Reading) -> Result<Catalog<&'static [u8]>, Error> {
     ParseOptions::new()
         .force_plural(rule)
         .reading(reading)
-        .parse(&F)
+        .parse_slice(&F)
 }
 
 /// The form that a rule names in the Standard reading.
 fn form(rule: &str, n: u64) -> Option<u64> {
-    read(rule, Reading::Standard).unwrap().form(n)
+    read(rule, Reading::Standard).unwrap().resolve(n)
 }
 
 #[test]
 fn f_answers_its_own_bytes() {
-    let catalog = Catalog::parse(&F).unwrap();
+    let catalog = Catalog::parse_slice(&F).unwrap();
     assert_eq!(catalog.len(), 1);
     let text = catalog.gettext("a");
     assert_eq!(text, "b");
     assert_eq!(text.as_ptr(), &F[46]);
     let answer = catalog.answer_gettext("a");
-    assert_eq!(answer.number, 0);
+    assert_eq!(answer.status, Status::Answered);
     assert_eq!(answer.which, Which::Segment { entry: 0, form: 0 });
 }
 
 #[test]
 fn an_absent_key_is_the_callers_own_text() {
-    let catalog = Catalog::parse(&F).unwrap();
+    let catalog = Catalog::parse_slice(&F).unwrap();
     let id = String::from("c");
     let answer = catalog.answer_gettext(&id);
-    assert_eq!(answer.number, 0);
+    assert_eq!(answer.status, Status::Answered);
     assert_eq!(answer.which, Which::Id);
     assert_eq!(answer.text, "c");
     assert_eq!(answer.text.as_ptr(), id.as_ptr());
@@ -109,32 +116,32 @@ fn an_absent_key_is_the_callers_own_text() {
 
 #[test]
 fn files_that_end_early() {
-    assert_eq!(refusal(&F[..47]), Some(Error::Eof));
-    assert_eq!(refusal(&F[..27]), Some(Error::Eof));
-    assert_eq!(refusal(&[]), Some(Error::Eof));
+    assert!(matches!(refusal(&F[..47]), Some(Error::Eof)));
+    assert!(matches!(refusal(&F[..27]), Some(Error::Eof)));
+    assert!(matches!(refusal(&[]), Some(Error::Eof)));
     // a count too large, an id without its NUL, a table past the end
-    assert_eq!(refusal(&with(8, 2)), Some(Error::Eof));
-    assert_eq!(refusal(&with(45, 0x62)), Some(Error::Eof));
-    assert_eq!(refusal(&with(12, 49)), Some(Error::Eof));
+    assert!(matches!(refusal(&with(8, 2)), Some(Error::Eof)));
+    assert!(matches!(refusal(&with(45, 0x62)), Some(Error::Eof)));
+    assert!(matches!(refusal(&with(12, 49)), Some(Error::Eof)));
 }
 
 #[test]
 fn the_byte_after_a_translation_is_not_looked_at() {
     let file = with(47, 0x7a);
-    assert_eq!(Catalog::parse(&file).unwrap().gettext("a"), "b");
+    assert_eq!(Catalog::parse_slice(&file).unwrap().gettext("a"), "b");
 }
 
 #[test]
 fn another_magic() {
-    assert_eq!(refusal(&with(0, 0)), Some(Error::BadMagic));
-    assert_eq!(refusal(&with(3, 0x94)), Some(Error::BadMagic));
+    assert!(matches!(refusal(&with(0, 0)), Some(Error::BadMagic)));
+    assert!(matches!(refusal(&with(3, 0x94)), Some(Error::BadMagic)));
 }
 
 #[test]
 fn both_byte_orders() {
     let entries: &[(&[u8], &[u8])] = &[(b"", b""), (b"x", b"y\0z")];
     for file in [made(entries), ordered(entries, u32::to_be_bytes)] {
-        let catalog = Catalog::parse(&file).unwrap();
+        let catalog = Catalog::parse_slice(&file).unwrap();
         assert_eq!(catalog.len(), 2);
         assert_eq!(catalog.gettext("x"), "y");
         assert_eq!(catalog.ngettext("x", "xs", 2), "z");
@@ -143,70 +150,79 @@ fn both_byte_orders() {
 
 #[test]
 fn texts_that_are_not_utf8() {
-    assert_eq!(refusal(&with(44, 0xff)), Some(Error::DecodingError));
-    assert_eq!(refusal(&with(46, 0x80)), Some(Error::DecodingError));
-    assert_eq!(
+    assert!(matches!(
+        refusal(&with(44, 0xff)),
+        Some(Error::DecodingError)
+    ));
+    assert!(matches!(
+        refusal(&with(46, 0x80)),
+        Some(Error::DecodingError)
+    ));
+    assert!(matches!(
         refusal(&made(&[(b"\xff\x04x", b"y")])),
         Some(Error::DecodingError)
-    );
-    assert_eq!(
+    ));
+    assert!(matches!(
         refusal(&made(&[(b"x", b"y\0\xed\xa0\x80")])),
         Some(Error::DecodingError)
-    );
+    ));
 }
 
 #[test]
 fn headers() {
     // byte 44 made 04: an empty id in the empty context, whose header is "b"
-    assert_eq!(refusal(&with(44, 4)), Some(Error::MalformedMetadata));
-    assert_eq!(
+    assert!(matches!(
+        refusal(&with(44, 4)),
+        Some(Error::MalformedMetadata)
+    ));
+    assert!(matches!(
         refusal(&headed(b"no colon\n")),
         Some(Error::MalformedMetadata)
-    );
-    assert_eq!(
+    ));
+    assert!(matches!(
         refusal(&made(&[(b"x", b"y"), (b"", b"")])),
         Some(Error::MisplacedMetadata)
-    );
-    assert_eq!(
+    ));
+    assert!(matches!(
         refusal(&headed(b"Plural-Forms: plural=(;\n")),
         Some(Error::PluralParsing)
-    );
-    assert_eq!(refusal(&headed(b"Content-Type: charset=UTF-8\n")), None);
+    ));
+    assert!(refusal(&headed(b"Content-Type: charset=UTF-8\n")).is_none());
     let file = headed(b"Language: de\n");
-    let catalog = Catalog::parse(&file).unwrap();
+    let catalog = Catalog::parse_slice(&file).unwrap();
     assert_eq!(catalog.gettext(""), "Language: de\n");
 }
 
 #[test]
 fn another_charset_is_refused_unless_utf8_is_forced() {
     let file = headed(b"Content-Type: text/plain; charset=iso-8859-1\n");
-    assert_eq!(refusal(&file), Some(Error::UnknownEncoding));
-    let catalog = ParseOptions::new().force_utf8().parse(&file).unwrap();
+    assert!(matches!(refusal(&file), Some(Error::UnknownEncoding)));
+    let catalog = ParseOptions::new().force_utf8().parse_slice(&file).unwrap();
     assert_eq!(catalog.gettext("x"), "y");
     // it passes over the label alone
     let wrong = made(&[(b"", b"Content-Type: charset=latin1\n"), (b"x", b"\xe4")]);
-    assert_eq!(
-        ParseOptions::new().force_utf8().parse(&wrong).unwrap_err(),
-        Error::DecodingError
-    );
+    assert!(matches!(
+        ParseOptions::new().force_utf8().parse_slice(&wrong),
+        Err(Error::DecodingError)
+    ));
 }
 
 #[test]
 fn a_long_rule() {
     let longest = "!".repeat(511) + "n";
     let catalog = read(&longest, Reading::Standard).unwrap();
-    assert_eq!(catalog.form(0), Some(1));
-    assert_eq!(catalog.form(7), Some(0));
+    assert_eq!(catalog.resolve(0), Some(1));
+    assert_eq!(catalog.resolve(7), Some(0));
     let longer = "!".repeat(512) + "n";
-    assert_eq!(
-        read(&longer, Reading::Standard).unwrap_err(),
-        Error::RuleTooLong
-    );
+    assert!(matches!(
+        read(&longer, Reading::Standard),
+        Err(Error::RuleTooLong)
+    ));
     let header = format!("Plural-Forms: plural={longer};\n");
-    assert_eq!(
+    assert!(matches!(
         refusal(&headed(header.as_bytes())),
         Some(Error::RuleTooLong)
-    );
+    ));
     // blanks at its ends do not count
     assert!(read(&format!(" {longest}\n"), Reading::Shipped).is_ok());
 }
@@ -222,10 +238,9 @@ fn errors_have_their_numbers_and_words() {
         Error::PluralParsing,
         Error::UnknownEncoding,
         Error::RuleTooLong,
-        Error::PoolFull,
     ];
     for (i, e) in all.iter().enumerate() {
-        assert_eq!(e.number(), i as u32 + 1);
+        assert_eq!(e.number(), Some(i as u32 + 1));
     }
     let e: Box<dyn std::error::Error> = Box::new(Error::BadMagic);
     assert_eq!(e.to_string(), "bad magic number");
@@ -235,12 +250,12 @@ fn errors_have_their_numbers_and_words() {
 #[test]
 fn g_has_two_forms() {
     let file = g();
-    let catalog = Catalog::parse(&file).unwrap();
+    let catalog = Catalog::parse_slice(&file).unwrap();
     let one = catalog.answer_ngettext("a", "as", 1);
-    assert_eq!((one.number, one.text), (0, "b"));
+    assert_eq!((one.status, one.text), (Status::Answered, "b"));
     assert_eq!(one.text.as_ptr(), &file[46]);
     let two = catalog.answer_ngettext("a", "as", 2);
-    assert_eq!((two.number, two.text), (0, "c"));
+    assert_eq!((two.status, two.text), (Status::Answered, "c"));
     assert_eq!(two.text.as_ptr(), &file[48]);
     assert_eq!(two.which, Which::Segment { entry: 0, form: 1 });
 }
@@ -252,7 +267,7 @@ fn contexts() {
         (b"month\x04May\0Mays", b"Mai\0Maien"),
         (b"\x04May", b"empty"),
     ]);
-    let catalog = Catalog::parse(&file).unwrap();
+    let catalog = Catalog::parse_slice(&file).unwrap();
     assert_eq!(catalog.gettext("May"), "plain");
     assert_eq!(catalog.pgettext("month", "May"), "Mai");
     assert_eq!(catalog.pgettext("", "May"), "empty");
@@ -270,20 +285,23 @@ fn contexts() {
 #[test]
 fn the_last_entry_with_a_key_counts() {
     let file = made(&[(b"x", b"first"), (b"x", b"last")]);
-    let catalog = Catalog::parse(&file).unwrap();
+    let catalog = Catalog::parse_slice(&file).unwrap();
     assert_eq!(catalog.gettext("x"), "last");
 }
 
 #[test]
 fn an_absent_plural() {
-    let catalog = Catalog::parse(&F).unwrap();
+    let catalog = Catalog::parse_slice(&F).unwrap();
     let one = catalog.answer_ngettext("x", "xs", 1);
-    assert_eq!((one.number, one.text, one.which), (0, "x", Which::Id));
+    assert_eq!(
+        (one.status, one.text, one.which),
+        (Status::Answered, "x", Which::Id)
+    );
     for n in [0, 2, u64::MAX] {
         let many = catalog.answer_ngettext("x", "xs", n);
         assert_eq!(
-            (many.number, many.text, many.which),
-            (0, "xs", Which::PluralId)
+            (many.status, many.text, many.which),
+            (Status::Answered, "xs", Which::PluralId)
         );
     }
 }
@@ -291,7 +309,10 @@ fn an_absent_plural() {
 #[test]
 fn forms_beyond_those_of_the_translation() {
     let file = made(&[(b"x\0xs", b"a\0b\0")]);
-    let catalog = ParseOptions::new().force_plural("n").parse(&file).unwrap();
+    let catalog = ParseOptions::new()
+        .force_plural("n")
+        .parse_slice(&file)
+        .unwrap();
     assert_eq!(catalog.ngettext("x", "xs", 0), "a");
     assert_eq!(catalog.ngettext("x", "xs", 1), "b");
     // an empty form is a form
@@ -302,8 +323,8 @@ fn forms_beyond_those_of_the_translation() {
     for n in [3, 1 << 32, u64::MAX] {
         let answer = catalog.answer_ngettext("x", "xs", n);
         assert_eq!(
-            (answer.number, answer.text, answer.which),
-            (0, "xs", Which::PluralId)
+            (answer.status, answer.text, answer.which),
+            (Status::Answered, "xs", Which::PluralId)
         );
     }
 }
@@ -311,21 +332,30 @@ fn forms_beyond_those_of_the_translation() {
 #[test]
 fn a_remainder_by_zero() {
     let catalog = read("1%n", Reading::Standard).unwrap();
-    assert_eq!(catalog.form(0), None);
-    assert_eq!(catalog.form(2), Some(1));
+    assert_eq!(catalog.resolve(0), None);
+    assert_eq!(catalog.resolve(2), Some(1));
     let many = catalog.answer_ngettext("a", "as", 0);
     assert_eq!(
-        (many.number, many.text, many.which),
-        (10, "as", Which::PluralId)
+        (many.status, many.text, many.which),
+        (Status::ZeroModulus, "as", Which::PluralId)
     );
     // also where no entry has the key
-    assert_eq!(catalog.answer_ngettext("z", "zs", 0).number, 10);
-    assert_eq!(catalog.answer_npgettext("c", "z", "zs", 0).number, 10);
+    assert_eq!(
+        catalog.answer_ngettext("z", "zs", 0).status,
+        Status::ZeroModulus
+    );
+    assert_eq!(
+        catalog.answer_npgettext("c", "z", "zs", 0).status,
+        Status::ZeroModulus
+    );
     let always = read("n%0", Reading::Shipped).unwrap();
     let one = always.answer_ngettext("a", "as", 1);
-    assert_eq!((one.number, one.text, one.which), (10, "a", Which::Id));
+    assert_eq!(
+        (one.status, one.text, one.which),
+        (Status::ZeroModulus, "a", Which::Id)
+    );
     // no rule is asked
-    assert_eq!(always.answer_gettext("a").number, 0);
+    assert_eq!(always.answer_gettext("a").status, Status::Answered);
     assert_eq!(always.gettext("a"), "b");
     assert_eq!(always.rating(), None);
     assert!(!always.fits(u64::MAX));
@@ -334,17 +364,20 @@ fn a_remainder_by_zero() {
 #[test]
 fn a_forced_rule_stands_instead_of_the_headers() {
     let file = headed(b"Plural-Forms: plural=(;\n");
-    let catalog = ParseOptions::new().force_plural("2").parse(&file).unwrap();
-    assert_eq!(catalog.form(1), Some(2));
-    assert_eq!(
-        read("", Reading::Standard).unwrap_err(),
-        Error::PluralParsing
-    );
+    let catalog = ParseOptions::new()
+        .force_plural("2")
+        .parse_slice(&file)
+        .unwrap();
+    assert_eq!(catalog.resolve(1), Some(2));
+    assert!(matches!(
+        read("", Reading::Standard),
+        Err(Error::PluralParsing)
+    ));
     // the header's rule, and the default where it has none
     let file = headed(b"Plural-Forms: nplurals=3; plural=n%3;\n");
-    assert_eq!(Catalog::parse(&file).unwrap().form(5), Some(2));
-    let catalog = Catalog::parse(&F).unwrap();
-    assert_eq!((catalog.form(1), catalog.form(7)), (Some(0), Some(1)));
+    assert_eq!(Catalog::parse_slice(&file).unwrap().resolve(5), Some(2));
+    let catalog = Catalog::parse_slice(&F).unwrap();
+    assert_eq!((catalog.resolve(1), catalog.resolve(7)), (Some(0), Some(1)));
 }
 
 #[test]
@@ -355,49 +388,52 @@ fn both_readings() {
         ("n==1 && 1 ? 2 : 3", 5, 0, 3),
     ] {
         assert_eq!(
-            read(rule, Reading::Shipped).unwrap().form(n),
+            read(rule, Reading::Shipped).unwrap().resolve(n),
             Some(shipped),
             "{rule}"
         );
         assert_eq!(
-            read(rule, Reading::Standard).unwrap().form(n),
+            read(rule, Reading::Standard).unwrap().resolve(n),
             Some(standard),
             "{rule}"
         );
     }
     for (rule, n, shipped) in [("(n1", 9, 9), ("+7", 1, 7)] {
-        assert_eq!(read(rule, Reading::Shipped).unwrap().form(n), Some(shipped));
         assert_eq!(
-            read(rule, Reading::Standard).unwrap_err(),
-            Error::PluralParsing
+            read(rule, Reading::Shipped).unwrap().resolve(n),
+            Some(shipped)
         );
+        assert!(matches!(
+            read(rule, Reading::Standard),
+            Err(Error::PluralParsing)
+        ));
     }
-    assert_eq!(
-        read("0 ? n?1:2 : 3", Reading::Shipped).unwrap_err(),
-        Error::PluralParsing
-    );
+    assert!(matches!(
+        read("0 ? n?1:2 : 3", Reading::Shipped),
+        Err(Error::PluralParsing)
+    ));
     assert_eq!(form("0 ? n?1:2 : 3", 1), Some(3));
     // the default is the crate's own, for the header's rule too
     let file = headed(b"Plural-Forms: plural=n%10%3;\n");
-    assert_eq!(Catalog::parse(&file).unwrap().form(5), Some(0));
+    assert_eq!(Catalog::parse_slice(&file).unwrap().resolve(5), Some(0));
     let standard = ParseOptions::new().reading(Reading::Standard);
-    assert_eq!(standard.parse(&file).unwrap().form(5), Some(2));
+    assert_eq!(standard.parse_slice(&file).unwrap().resolve(5), Some(2));
 }
 
 #[test]
 fn numbers_of_64_bits() {
     assert_eq!(form("18446744073709551615", 0), Some(u64::MAX));
-    assert_eq!(
-        read("18446744073709551616", Reading::Standard).unwrap_err(),
-        Error::PluralParsing
-    );
+    assert!(matches!(
+        read("18446744073709551616", Reading::Standard),
+        Err(Error::PluralParsing)
+    ));
     assert_eq!(form("n", u64::MAX), Some(u64::MAX));
 }
 
 #[test]
 fn ratings() {
     let rating = |rule| read(rule, Reading::Standard).unwrap().rating();
-    assert_eq!(Catalog::parse(&F).unwrap().rating(), Some((0, 1)));
+    assert_eq!(Catalog::parse_slice(&F).unwrap().rating(), Some((0, 1)));
     assert_eq!(rating("n"), Some((0, u64::MAX)));
     assert_eq!(rating("3"), Some((3, 3)));
     assert_eq!(rating("n ? 5 : 2"), Some((2, 5)));
@@ -418,8 +454,8 @@ fn fitting() {
     assert!(zero.fits(1));
     assert!(!zero.fits(0));
     assert!(!read("5%n", Reading::Standard).unwrap().fits(u64::MAX));
-    assert!(Catalog::parse(&F).unwrap().fits(2));
-    assert!(!Catalog::parse(&F).unwrap().fits(1));
+    assert!(Catalog::parse_slice(&F).unwrap().fits(2));
+    assert!(!Catalog::parse_slice(&F).unwrap().fits(1));
 }
 
 #[test]
@@ -431,9 +467,9 @@ fn the_empty_catalog() {
     assert_eq!(catalog.pgettext("c", "a"), "a");
     assert_eq!(catalog.ngettext("a", "as", 1), "a");
     assert_eq!(catalog.npgettext("c", "a", "as", 2), "as");
-    assert_eq!(catalog.answer_gettext("a").number, 0);
+    assert_eq!(catalog.answer_gettext("a").status, Status::Answered);
     assert_eq!(catalog.rating(), Some((0, 1)));
-    assert_eq!(catalog.form(1), Some(0));
+    assert_eq!(catalog.resolve(1), Some(0));
 }
 
 #[test]
@@ -442,7 +478,7 @@ fn texts_beyond_ascii() {
         ("größe".as_bytes(), "大きさ\0\u{10ffff}\u{feff}".as_bytes()),
         (b"nothing", b""),
     ]);
-    let catalog = Catalog::parse(&file).unwrap();
+    let catalog = Catalog::parse_slice(&file).unwrap();
     assert_eq!(catalog.gettext("größe"), "大きさ");
     assert_eq!(catalog.ngettext("größe", "größen", 2), "\u{10ffff}\u{feff}");
     let nothing = catalog.answer_gettext("nothing");
@@ -453,7 +489,7 @@ fn texts_beyond_ascii() {
 #[test]
 fn bytes() {
     let file = g();
-    let catalog = Catalog::parse(&file).unwrap();
+    let catalog = Catalog::parse_slice(&file).unwrap();
     assert_eq!(catalog.gettext_bytes(b"a"), b"b");
     assert_eq!(catalog.ngettext_bytes(b"a", b"as", 2), b"c");
     assert_eq!(catalog.ngettext_bytes(b"z", b"zs", 2), b"zs");
@@ -501,9 +537,9 @@ fn a_catalog_is_data() {
     fn shared<T: Send + Sync + Clone>(t: &T) -> T {
         t.clone()
     }
-    let catalog = shared(&Catalog::parse(&F).unwrap());
+    let catalog = shared(&Catalog::parse(&F[..]).unwrap());
     assert_eq!(catalog.gettext("a"), "b");
-    assert_eq!(size_of::<Catalog>(), 7752);
+    assert_eq!(size_of::<Catalog>(), 32);
     assert_eq!(
         format!("{catalog:?}"),
         "Catalog { bytes: 48, entries: 1, .. }"
@@ -512,14 +548,114 @@ fn a_catalog_is_data() {
     assert_eq!(read, "b");
 }
 
+#[test]
+fn texts_outlive_a_catalog_that_borrows() {
+    let file = g();
+    let text = {
+        let catalog = Catalog::parse_slice(&file).unwrap();
+        let context = String::from("none");
+        assert_eq!(catalog.pgettext(&context, "a"), "a");
+        catalog.gettext("a")
+    };
+    assert_eq!(text.as_ptr(), &file[46]);
+}
+
+#[test]
+fn a_catalog_owns_its_bytes() {
+    let mut shop: HashMap<&str, Arc<Catalog>> = HashMap::new();
+    shop.insert(
+        "de",
+        Arc::new(Catalog::parse(File::open(DE).unwrap()).unwrap()),
+    );
+    shop.insert("en", Arc::default());
+    let german = Arc::clone(&shop["de"]);
+    let text = std::thread::spawn(move || german.gettext("Your invoice").to_string());
+    assert_eq!(text.join().unwrap(), "Ihre Rechnung");
+    assert_eq!(shop["en"].gettext("Your invoice"), "Your invoice");
+
+    let file: Arc<[u8]> = std::fs::read(DE).unwrap().into();
+    let catalog = Catalog::parse_bytes(Arc::clone(&file)).unwrap();
+    let moved = catalog.clone();
+    drop(catalog);
+    let text = moved.pgettext("month", "May");
+    assert_eq!(text, "Mai");
+    assert!(file.as_ptr_range().contains(&text.as_ptr()));
+    let boxed: Box<[u8]> = g().into();
+    let catalog = Catalog::parse_bytes(boxed).unwrap();
+    assert_eq!(catalog.ngettext("a", "as", 2), "c");
+}
+
+#[test]
+fn a_reader_that_fails() {
+    struct Broken;
+    impl Read for Broken {
+        fn read(&mut self, _: &mut [u8]) -> io::Result<usize> {
+            Err(io::Error::new(io::ErrorKind::Other, "the disk is gone"))
+        }
+    }
+    let error = Catalog::parse(Broken).unwrap_err();
+    assert!(matches!(error, Error::Io(_)));
+    assert_eq!(error.to_string(), "the disk is gone");
+    assert_eq!(error.number(), None);
+    assert!(std::error::Error::source(&error).is_some());
+}
+
+#[test]
+fn what_a_load_costs() {
+    assert_eq!(cost(&F), 2);
+    assert_eq!(cost(&g()), 4);
+    assert_eq!(cost(&F[..27]), 0);
+    assert_eq!(cost(&with(0, 0)), 0);
+    // the second original's cell is the translation's, and the second translation's lies outside the file
+    assert_eq!(cost(&with(8, 2)), 3);
+    let within = |limit, file: &[u8]| ParseOptions::new().max_cost(limit).parse_slice(file).err();
+    assert!(within(2, &F).is_none());
+    assert!(matches!(
+        within(1, &F),
+        Some(Error::TooCostly { cost: 2, limit: 1 })
+    ));
+    // a file that is not loaded for another reason tells that one
+    assert!(matches!(within(1, &F[..27]), Some(Error::Eof)));
+    assert_eq!(
+        within(1, &F).unwrap().to_string(),
+        "the load costs 2, and 1 is the limit"
+    );
+}
+
+/// 1 MiB whose entries all lie over the same 349,408 bytes: its load would look at 30.5 GB.
+#[test]
+fn a_hostile_file_is_refused_before_it_is_loaded() {
+    const SIZE: usize = 1 << 20;
+    const COUNT: usize = 43_694;
+    let text = 28 + 16 * COUNT;
+    let mut file = Vec::new();
+    for w in [0x9504_12de, 0, COUNT, 28, 28 + 8 * COUNT, 0, 0] {
+        file.extend((w as u32).to_le_bytes());
+    }
+    for _ in 0..2 * COUNT {
+        file.extend(((SIZE - text - 1) as u32).to_le_bytes());
+        file.extend((text as u32).to_le_bytes());
+    }
+    file.resize(SIZE, b'x');
+    let sum = 2 * COUNT as u64 * (SIZE - text - 1) as u64;
+    assert_eq!(cost(&file), sum);
+    let limited = ParseOptions::new().max_cost(64 << 20).parse_bytes(file);
+    assert!(matches!(limited, Err(Error::TooCostly { cost, .. }) if cost == sum));
+}
+
 /// README's warning: the forms of the Russian rule in the two readings.
 #[test]
 fn russian_forms_in_both_readings() {
-    const RULE: &str = "n%10==1 && n%100!=11 ? 0 : n%10>=2 && n%10<=4 && (n%100<10 || n%100>=20) ? 1 : 2";
+    const RULE: &str =
+        "n%10==1 && n%100!=11 ? 0 : n%10>=2 && n%10<=4 && (n%100<10 || n%100>=20) ? 1 : 2";
     let counts = [0, 1, 2, 4, 5, 11, 21, 22, 25, 101];
     let forms = |reading| {
-        let catalog = ParseOptions::new().force_plural(RULE).reading(reading).parse(&F).unwrap();
-        counts.map(|n| catalog.form(n).unwrap())
+        let catalog = ParseOptions::new()
+            .force_plural(RULE)
+            .reading(reading)
+            .parse_slice(&F)
+            .unwrap();
+        counts.map(|n| catalog.resolve(n).unwrap())
     };
     assert_eq!(forms(Reading::Shipped), [0; 10]);
     assert_eq!(forms(Reading::Standard), [2, 0, 1, 1, 2, 2, 0, 1, 2, 0]);

@@ -1,5 +1,6 @@
-use Rattle.container.specs.Promise.{readOutcome}
-use Rattle.messages.proofs.Told.{told}
+-- Case by case. Assumes nothing.
+use Rattle.promise.proofs.Told.{told}
+use Rattle.container.specs.Private.{readOutcome}
 use borrow.Author.Needs.{needs}
 use Rattle.container.proofs.entry_outcome.Statement.{statement}
 use Rattle.container.proofs.entry_outcome.Tie as tie
@@ -16,10 +17,10 @@ enum-known-entry-2 : tie.Need-enum-known-entry-2
 enum-known-entry-2 c = search needs
 
 returns : tie.Need-returns
-returns c = told readOutcome (c .enum-told .given .1)
+returns c = search needs
 
 returns-2 : tie.Need-returns-2
-returns-2 c = told readOutcome (c .before .entry .given .1)
+returns-2 c = search needs
 
 returns-3 : tie.Need-returns-3
 returns-3 c = told readOutcome (c .before .entry2 .given .1)

@@ -1,5 +1,6 @@
-use Rattle.container.specs.Promise.{headOutcome}
-use Rattle.messages.proofs.Told.{told}
+-- Case by case. Assumes nothing.
+use Rattle.promise.proofs.Told.{told}
+use Rattle.container.specs.Private.{headOutcome}
 use borrow.Author.Needs.{needs}
 use Rattle.container.proofs.head_outcome.Statement.{statement}
 use Rattle.container.proofs.head_outcome.Tie as tie
@@ -13,7 +14,7 @@ enum-known-head-2 : tie.Need-enum-known-head-2
 enum-known-head-2 c = search needs
 
 returns : tie.Need-returns
-returns c = told headOutcome (c .before .head .given .1)
+returns c = search needs
 
 returns-2 : tie.Need-returns-2
 returns-2 c = told headOutcome (c .before .head2 .given .1)

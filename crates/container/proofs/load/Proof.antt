@@ -1,117 +1,21 @@
--- Stage by stage. Assumes nothing.
-use mathlib.Core.Path.{refl}
-use Rattle.container.proofs.Loading.{forced-refused, head-refused, rule-inside, rule-stopped, rest-refused, nodes-some, is-loaded}
+-- The rule has a node, the last of which is the root. Assumes nothing.
+use Rattle.container.specs.Catalog as catalog
+use Rattle.container.proofs.Stages.{some-nodes}
 use borrow.Author.Needs.{needs}
 use Rattle.container.proofs.load.Statement.{statement}
 use Rattle.container.proofs.load.Tie as tie
 use Rattle.container.proofs.load.Reads as reads
 use Rattle.container.proofs.load.Lts as lts
-use Rattle.container.proofs.head_outcome.Reads as head-outcome-reads
-use Rattle.container.proofs.parse_rest.Reads as parse-rest-reads
-use Rattle.container.proofs.record_of.Reads as record-of-reads
-use Rattle.container.proofs.refused.Reads as refused-reads
-use Rattle.choice.proofs.parse_forced.Reads as parse-forced-reads
-use Rattle.choice.proofs.rule_of.Reads as rule-of-reads
-use Rattle.first.proofs.parse_first.Reads as parse-first-reads
-use Rattle.head.proofs.parse_head.Reads as parse-head-reads
+use Rattle.container.proofs.load_into.Reads as load-into-reads
 
-parse-forced-requires : tie.Need-parse-forced-requires
-parse-forced-requires c κs = search needs
+load-into-requires : tie.Need-load-into-requires
+load-into-requires c κs = search needs
 
-enum-told : tie.Need-enum-told
-enum-told c = search needs
-
-enum-told-2 : tie.Need-enum-told-2
-enum-told-2 c = search needs
-
-refused-requires : tie.Need-refused-requires
-refused-requires c κs = search needs
+sub-t17 : tie.Need-sub-t17
+sub-t17 c = some-nodes (catalog.treeIn (catalog.load (c .before .before .before .before .before .before .before .args .options) (c .before .before .before .before .before .before .before .args .rule .now) (c .before .before .before .before .before .before .before .args .file .now))) (c .before .load-into .ensures .nodes-are)
 
 returns : tie.Need-returns
-returns c = forced-refused (c .before .before .before .before .before .before .args .options) (c .before .before .before .before .before .before .args .rule .now) (c .before .before .before .before .before .before .args .file .now) (c .before .before .before .parse-forced .ensures) (c .before .enum-told2 .given .1) (c .refused .ensures)
-
-parse-head-requires : tie.Need-parse-head-requires
-parse-head-requires c κs = search needs
-
-enum-known-head : tie.Need-enum-known-head
-enum-known-head c = search needs
-
-enum-told-3 : tie.Need-enum-told-3
-enum-told-3 c = search needs
-
-head-outcome-requires : tie.Need-head-outcome-requires
-head-outcome-requires c κs = search needs
-
-refused-requires-2 : tie.Need-refused-requires-2
-refused-requires-2 c κs = search needs
-
-returns-2 : tie.Need-returns-2
-returns-2 c = head-refused (c .before .before .before .before .before .before .before .before .before .before .args .options) (c .before .before .before .before .before .before .before .before .before .before .args .rule .now) (c .before .before .before .before .before .before .before .before .before .before .args .file .now) (c .before .before .before .before .before .before .before .parse-forced .ensures) (c .before .before .before .before .before .enum-told .given .1) (c .before .before .before .before .parse-head .ensures) (c .before .before .enum-told3 .given .1) (c .before .head-outcome .ensures) (c .refused2 .ensures)
-
-parse-first-requires : tie.Need-parse-first-requires
-parse-first-requires c κs = search needs
-
-rule-of-requires : tie.Need-rule-of-requires
-rule-of-requires c κs = rule-inside (c .before .before .before .before .before .before .before .before .before .before .args .options) (c .before .before .before .before .before .before .before .before .before .before .args .rule .now) (c .before .before .before .before .before .before .before .before .before .before .args .file .now) (c .before .before .before .before .before .before .before .parse-forced .ensures) (c .before .before .before .before .before .enum-told .given .1) (c .before .before .before .before .parse-head .ensures) (c .before .before .head .given .1) (c .parse-first .ensures)
-
-enum-told-4 : tie.Need-enum-told-4
-enum-told-4 c = search needs
-
-enum-told-5 : tie.Need-enum-told-5
-enum-told-5 c = search needs
-
-refused-requires-3 : tie.Need-refused-requires-3
-refused-requires-3 c κs = search needs
-
-returns-3 : tie.Need-returns-3
-returns-3 c = rule-stopped (c .before .before .before .before .before .before .before .before .before .before .before .before .before .before .args .options) (c .before .before .before .before .before .before .before .before .before .before .before .before .before .before .args .rule .now) (c .before .before .before .before .before .before .before .before .before .before .before .before .before .before .args .file .now) (c .before .before .before .before .before .before .before .before .before .before .before .parse-forced .ensures) (c .before .before .before .before .before .before .before .before .before .enum-told .given .1) (c .before .before .before .before .before .before .before .before .parse-head .ensures) (c .before .before .before .before .before .before .head .given .1) (c .before .before .before .before .parse-first .ensures) (c .before .before .before .rule-of .ensures) (c .before .enum-told5 .given .1) (c .refused3 .ensures)
-
-parse-rest-requires : tie.Need-parse-rest-requires
-parse-rest-requires c κs = search needs
-
-enum-told-6 : tie.Need-enum-told-6
-enum-told-6 c = search needs
-
-enum-told-7 : tie.Need-enum-told-7
-enum-told-7 c = search needs
-
-refused-requires-4 : tie.Need-refused-requires-4
-refused-requires-4 c κs = search needs
-
-returns-4 : tie.Need-returns-4
-returns-4 c = rest-refused (c .before .before .before .before .before .before .before .before .before .before .before .before .before .before .before .before .before .args .options) (c .before .before .before .before .before .before .before .before .before .before .before .before .before .before .before .before .before .args .rule .now) (c .before .before .before .before .before .before .before .before .before .before .before .before .before .before .before .before .before .args .file .now) (c .before .before .before .before .before .before .before .before .before .before .before .before .before .before .parse-forced .ensures) (c .before .before .before .before .before .before .before .before .before .before .before .before .enum-told .given .1) (c .before .before .before .before .before .before .before .before .before .before .before .parse-head .ensures) (c .before .before .before .before .before .before .before .before .before .head .given .1) (c .before .before .before .before .before .before .before .parse-first .ensures) (c .before .before .before .before .before .before .rule-of .ensures) (c .before .before .before .before .enum-told4 .given .1) (c .before .before .before .parse-rest .ensures) (c .before .enum-told7 .given .1) (c .refused4 .ensures)
-
-record-of-requires : tie.Need-record-of-requires
-record-of-requires c κs = nodes-some (c .before .before .before .before .before .before .before .before .before .before .before .before .before .before .before .before .before .args .options) (c .before .before .before .before .before .before .before .before .before .before .before .before .before .before .before .before .before .args .rule .now) (c .before .before .before .before .before .before .before .before .before .before .before .before .before .before .before .before .before .args .file .now) (c .before .before .before .before .before .before .before .before .before .before .before .before .before .before .parse-forced .ensures) (c .before .before .before .before .before .before .before .before .before .before .before .before .enum-told .given .1) (c .before .before .before .before .before .before .before .before .before .before .before .parse-head .ensures) (c .before .before .before .before .before .before .before .before .before .head .given .1) (c .before .before .before .before .before .before .before .parse-first .ensures) (c .before .before .before .before .before .before .rule-of .ensures) (c .before .before .before .before .enum-told4 .given .1) (c .before .before .before .parse-rest .ensures)
-
-returns-5 : tie.Need-returns-5
-returns-5 c = is-loaded (c .before .before .before .before .before .before .before .before .before .before .before .before .before .before .before .before .before .before .args .options) (c .before .before .before .before .before .before .before .before .before .before .before .before .before .before .before .before .before .before .args .rule .now) (c .before .before .before .before .before .before .before .before .before .before .before .before .before .before .before .before .before .before .args .file .now) (c .before .before .before .before .before .before .before .before .before .before .before .before .before .before .before .parse-forced .ensures) (c .before .before .before .before .before .before .before .before .before .before .before .before .before .enum-told .given .1) (c .before .before .before .before .before .before .before .before .before .before .before .before .parse-head .ensures) (c .before .before .before .before .before .before .before .before .before .before .head .given .1) (c .before .before .before .before .before .before .before .before .parse-first .ensures) (c .before .before .before .before .before .before .before .rule-of .ensures) (c .before .before .before .before .before .enum-told4 .given .1) (c .before .before .before .before .parse-rest .ensures) (c .before .before .enum-told6 .given .1) refl (c .record-of .ensures)
+returns c = search needs
 
 pub load-spec : {M : Type 1} → statement M
-load-spec =
-    tie.close
-    (tie.spec
-    parse-forced-requires
-    enum-told
-    enum-told-2
-    refused-requires
-    returns
-    parse-head-requires
-    enum-known-head
-    enum-told-3
-    head-outcome-requires
-    refused-requires-2
-    returns-2
-    parse-first-requires
-    rule-of-requires
-    enum-told-4
-    enum-told-5
-    refused-requires-3
-    returns-3
-    parse-rest-requires
-    enum-told-6
-    enum-told-7
-    refused-requires-4
-    returns-4
-    record-of-requires
-    returns-5)
+load-spec = tie.close (tie.spec load-into-requires sub-t17 returns)

@@ -1,6 +1,6 @@
 -- The first pattern and the next one bound the label. Assumes nothing.
 use mathlib.Core.Path.{sym, _∙_}
-use Rattle.compare.proofs.Sought.{first-inside}
+use Rattle.text.proofs.Sought.{first-inside}
 use Rattle.header.proofs.Labels.{pattern, no-label, to-the-next, to-the-end}
 use borrow.Author.Needs.{needs}
 use native.Mathlib.Omega.{arith}

@@ -1,9 +1,12 @@
--- The numbers of each case. Assumes nothing.
+-- Case by case. Assumes nothing.
+use Rattle.promise.proofs.Told.{told}
 use Rattle.host.specs.Host.{fitsOf}
-use Rattle.messages.proofs.Told.{told}
 use borrow.Author.Needs.{needs}
 use Rattle.host.proofs.fits_of.Statement.{statement}
 use Rattle.host.proofs.fits_of.Tie as tie
+use Rattle.host.proofs.fits_of.Reads as reads
+use Rattle.host.proofs.fits_of.Lts as lts
+use Rattle.refusal.proofs.number_of.Reads as number-of-reads
 
 enum-told : tie.Need-enum-told
 enum-told c = search needs
@@ -14,8 +17,8 @@ enum-told-2 c = search needs
 enum-told-3 : tie.Need-enum-told-3
 enum-told-3 c = search needs
 
-why-number-requires : tie.Need-why-number-requires
-why-number-requires c κs = search needs
+number-of-requires : tie.Need-number-of-requires
+number-of-requires c κs = search needs
 
 returns : tie.Need-returns
 returns c = told fitsOf (c .enum-told .given .1)
@@ -24,7 +27,9 @@ returns-2 : tie.Need-returns-2
 returns-2 c = told fitsOf (c .enum-told2 .given .1)
 
 returns-3 : tie.Need-returns-3
-returns-3 c = simp (c .why-number .ensures, c .before .enum-told3 .given .1)
+returns-3 c = simp (c .number-of .ensures, c .before .enum-told3 .given .1)
 
 pub fits-of-spec : {M : Type 1} → statement M
-fits-of-spec = tie.close (tie.spec enum-told enum-told-2 enum-told-3 why-number-requires returns returns-2 returns-3)
+fits-of-spec =
+    tie.close
+    (tie.spec enum-told enum-told-2 enum-told-3 number-of-requires returns returns-2 returns-3)

@@ -1,27 +1,22 @@
--- A file of the record's length is sought in, and form 0 answers. Assumes nothing.
-use Rattle.keys.specs.Keys.{keyOf}
-use Rattle.lookup.proofs.Answers.{stale, found}
+-- The length is tested, and form 0 is sought in the last entry with the key. Assumes nothing.
+use mathlib.Core.Path.{refl, ap, _∙_}
+use Rattle.lookup.specs.Lookup.{byEntry}
+use Rattle.lookup.proofs.Reasons.{stale, by-rule}
 use borrow.Author.Needs.{needs}
 use Rattle.lookup.proofs.find.Statement.{statement}
 use Rattle.lookup.proofs.find.Tie as tie
 
 returns : tie.Need-returns
-returns c = stale (c .before .before .before .before .before .args .file .now) (c .before .before .before .before .before .args .t) (keyOf (c .before .before .before .before .before .args .given) (c .before .before .before .before .before .args .context .now) (c .before .before .before .before .before .args .id .now)) (c .if1 .taken)
+returns c = stale _ _ _ _ (c .if1 .taken)
 
-seek-requires : tie.Need-seek-requires
-seek-requires c κs = search needs
+last-hit-requires : tie.Need-last-hit-requires
+last-hit-requires c κs = search needs
 
-enum-known-hit : tie.Need-enum-known-hit
-enum-known-hit c = search needs
-
-enum-told : tie.Need-enum-told
-enum-told c = search needs
+by-entry-requires : tie.Need-by-entry-requires
+by-entry-requires c κs = search needs
 
 returns-2 : tie.Need-returns-2
-returns-2 c = found (c .before .before .before .before .before .before .before .before .args .file .now) (c .before .before .before .before .before .before .before .before .args .t) (keyOf (c .before .before .before .before .before .before .before .before .args .given) (c .before .before .before .before .before .before .before .before .args .context .now) (c .before .before .before .before .before .before .before .before .args .id .now)) (c .before .before .before .if1 .left) (c .before .before .seek .ensures) (c .enum-told .given .1)
-
-returns-3 : tie.Need-returns-3
-returns-3 c = found (c .before .before .before .before .before .before .before .before .before .args .file .now) (c .before .before .before .before .before .before .before .before .before .args .t) (keyOf (c .before .before .before .before .before .before .before .before .before .args .given) (c .before .before .before .before .before .before .before .before .before .args .context .now) (c .before .before .before .before .before .before .before .before .before .args .id .now)) (c .before .before .before .before .if1 .left) (c .before .before .before .seek .ensures) (c .before .hit .given .1)
+returns-2 c = by-rule _ _ _ _ (c .before .before .if1 .left) refl refl (c .by-entry .ensures ∙ ap (byEntry (c .before .before .before .before .before .before .before .args .file .now) 0) (c .before .last-hit .ensures))
 
 pub find-spec : {M : Type 1} → statement M
-find-spec = tie.close (tie.spec returns seek-requires enum-known-hit enum-told returns-2 returns-3)
+find-spec = tie.close (tie.spec returns last-hit-requires by-entry-requires returns-2)

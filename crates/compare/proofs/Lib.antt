@@ -1,4 +1,0 @@
-pub mod Same
-pub mod Sought
-pub mod Unique
-pub mod Cases

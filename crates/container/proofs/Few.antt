@@ -1,0 +1,79 @@
+-- The rule of an answer has at most 512 nodes, whichever it is: each that is read has (`at-most-512-nodes`), and the default has three.
+-- Assumes nothing.
+use Prim.Native.Nat.{ℕ, zero, suc, _≤_}
+use mathlib.Core.Bool.{Bool, true, false}
+use mathlib.Core.List.{List}
+use native.Mathlib.Omega.{arith}
+use lib.ListN.{take, drop}
+use Rattle.rules.specs.Tree.{Tree, defaultTree}
+use Rattle.rules.specs.Store.{size}
+use Rattle.reading_rule.specs.Plurals as plurals
+use Rattle.reading_rule.specs.Plurals.{Parse, rule, norule}
+use Rattle.reading_rule.specs.declared.Reading.{Reading}
+use Rattle.reading_rule.proofs.Nodes.{at-most-512-nodes}
+use Rattle.header_fields.specs.declared.Place.the-variants.{At, Absent}
+use Rattle.container_layout.specs.Mo.{segments}
+use Rattle.container_layout.specs.declared.Tables.{Tables}
+use Rattle.container_messages.specs.Messages.{readAt}
+use Rattle.container_messages.specs.declared.Read.{Read}
+use Rattle.container_messages.specs.declared.Read.the-variants as read
+use Rattle.container_head.specs.Head.{headOf}
+use Rattle.container_head.specs.declared.Head.{Head}
+use Rattle.container_head.specs.declared.Head.the-variants as head
+use Rattle.container_rule.specs.Rule.{forcedRule, ruleAt, segment0, ruleIn}
+use Rattle.container_rule.specs.declared.First.{First}
+use Rattle.container_rule.specs.declared.First.the-variants as first
+use Rattle.container.specs.Catalog.{andThen, header, entryStep, entriesFrom, answered, catalog, loadWith, load, treeIn}
+use Rattle.container.specs.declared.Options.{Options}
+
+abbrev Few : Tree → Type 0
+Few t = size t ≤ 512
+
+few-default : Few defaultTree
+unfolding size
+few-default = omega arith
+
+abbrev FewIn : Parse → Type 0
+FewIn p = Few (plurals.treeIn p)
+
+few-forced : (forced : Bool) (reading : Reading) (f : List ℕ) → FewIn (forcedRule forced reading f)
+few-forced true reading f = at-most-512-nodes reading f
+few-forced false reading f = few-default
+
+few-rule : (reading : Reading) (s : List ℕ) (r : Tree) → Few r → (p : First) → FewIn (ruleIn reading s r p)
+few-rule reading s r h (first.Rule (At a l)) = at-most-512-nodes reading (take l (drop a s))
+few-rule reading s r h (first.Rule Absent) = h
+few-rule reading s r h (first.Refused e) = few-default
+
+module _ (o : Options) (s : List ℕ) where
+  few-entry : (r : Tree) → Few r → (q : Read) → FewIn (entryStep o s r q)
+  unfolding entryStep header
+  few-entry r h (read.Refused e) = few-default
+  few-entry r h read.Message = h
+  few-entry r h (read.Header a l) = few-rule (o .reading) (segment0 (segments s a l)) r h (ruleAt (o .forced) (o .utf8) (segment0 (segments s a l)))
+
+  few-then : (p : Parse) → FewIn p → (f : Tree → Parse) → ((r : Tree) → Few r → FewIn (f r)) → FewIn (andThen p f)
+  few-then (rule r) h f g = g r h
+  few-then (norule e) h f g = h
+
+  few-entries : (t : Tables) (k i : ℕ) (r : Tree) → Few r → FewIn (entriesFrom o s t k i r)
+  unfolding entriesFrom
+  few-entries t zero i r h = h
+  few-entries t (suc k) i r h =
+      few-then (entryStep o s r (readAt s t i)) (few-entry r h (readAt s t i)) (entriesFrom o s t k (suc i)) (λ u g. few-entries t k (suc i) u g)
+
+  few-answered : (t : Tables) (p : Parse) → FewIn p → Few (treeIn (answered t p))
+  few-answered t (rule r) h = h
+  few-answered t (norule e) h = few-default
+
+  few-catalog : (r : Tree) → Few r → (h : Head) → Few (treeIn (catalog o s r h))
+  few-catalog r g (head.Fields t) = few-answered t (entriesFrom o s t (t .count) 0 r) (few-entries t (t .count) 0 r g)
+  few-catalog r g (head.Refused e) = few-default
+
+  few-with : (p : Parse) → FewIn p → Few (treeIn (loadWith o s p))
+  few-with (rule r) h = few-catalog r h (headOf s)
+  few-with (norule e) h = few-default
+
+pub few : (o : Options) (f s : List ℕ) → size (treeIn (load o f s)) ≤ 512
+unfolding load
+few o f s = few-with o s (forcedRule (o .forced) (o .reading) f) (few-forced (o .forced) (o .reading) f)

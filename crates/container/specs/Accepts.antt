@@ -1,0 +1,71 @@
+-- What a load accepts, as facts about the file, without order. Document 01, "Loading, in order". proofs/Exactly.antt shows that `load`
+-- accepts a file exactly if these hold, with these tables and this rule (`accepted-exactly`).
+use Prim.Native.Nat.{ℕ, _<_, _≤_}
+use mathlib.Core.Path.{_≡_}
+use mathlib.Core.Bool.{Bool, true, false, _||_}
+use mathlib.Core.List.{List, []}
+use lib.ListN.{length, take, drop}
+use Rattle.text_trim.specs.Trim.{six}
+use Rattle.refusal.specs.declared.Error.{Error}
+use Rattle.rules.specs.Tree.{Tree, defaultTree}
+use Rattle.reading_rule.specs.Plurals.{rule, norule, parsed}
+use Rattle.header_fields.specs.declared.Place.{Place}
+use Rattle.header_fields.specs.declared.Place.the-variants as place
+use Rattle.header.specs.Header.{metadata}
+use Rattle.header.specs.declared.Metadata.the-variants.{Fields}
+use Rattle.container_layout.specs.Mo.{original, id, segments}
+use Rattle.container_layout.specs.declared.Tables.{Tables}
+use Rattle.container_messages.specs.Good.{Good}
+use Rattle.container_messages.specs.Messages.{readAt}
+use Rattle.container_head.specs.Head.{orderOf, tables, headOf}
+use Rattle.container_head.specs.declared.Order.the-variants.{Big}
+use Rattle.container_head.specs.declared.Head.the-variants as head
+use Rattle.container_rule.specs.Rule.{forcedRule, labelOk, segment0}
+use Rattle.container.specs.Catalog.{entryStep, entriesFrom}
+use Rattle.container.specs.declared.Options.{Options}
+
+-- 2 and 3. the head: at least 28 bytes, the magic in one byte order, the words at 8, 12 and 16, and both table offsets within the size
+pub record Headed (s : List ℕ) (t : Tables) : Type 0 where
+  pub long : 28 ≤ length s
+  pub order : orderOf s ≡ Big (t .big)
+  pub words : t ≡ tables s (t .big)
+  pub originals-in : t .originals ≤ length s
+  pub translations-in : t .translations ≤ length s
+
+-- 6. h is the header: the id of entry 0 is empty, and h is segment 0 of its translation
+pub record IsHeader (s : List ℕ) (t : Tables) (h : List ℕ) : Type 0 where
+  pub some : 0 < t .count
+  pub good : Good s t 0
+  pub empty : id (original s (good .at) (good .len)) ≡ []
+  pub is : h ≡ segment0 (segments s (good .start) (good .size))
+
+-- every line of a header is empty or has a colon, its label is UTF-8's or absent or passed over, and p is where its rule lies, or none
+pub record Fine (o : Options) (h : List ℕ) (p : Place) : Type 0 where
+  pub label : Place
+  pub fields : metadata six h ≡ Fields label p
+  pub known : (o .utf8 || labelOk h label) ≡ true
+
+-- 1 and 6. which rule counts: the forced one, else the header's, else the default
+pub data Counts (o : Options) (f s : List ℕ) (t : Tables) (r : Tree) : Type 0 where
+  forced : o .forced ≡ true → parsed (o .reading) f ≡ rule r → Counts o f s t r
+  given : o .forced ≡ false → {h : List ℕ} {at len : ℕ} → IsHeader s t h → Fine o h (place.At at len) → parsed (o .reading) (take len (drop at h)) ≡ rule r → Counts o f s t r
+  absent : o .forced ≡ false → {h : List ℕ} → IsHeader s t h → Fine o h place.Absent → r ≡ defaultTree → Counts o f s t r
+  headless : o .forced ≡ false → ((h : List ℕ) → IsHeader s t h → ⊥) → r ≡ defaultTree → Counts o f s t r
+
+pub record SomeFine (o : Options) (h : List ℕ) : Type 0 where
+  pub place : Place
+  pub fine : Fine o h place
+
+pub record Accepts (o : Options) (f s : List ℕ) (t : Tables) (r : Tree) : Type 0 where
+  pub headed : Headed s t
+  pub entries : (i : ℕ) → i < t .count → Good s t i
+  pub header : (h : List ℕ) → IsHeader s t h → SomeFine o h
+  pub counts : Counts o f s t r
+
+-- What a load is refused for: the forced rule, else the head, else the lowest entry of which a test fails, after all below it passed; of its
+-- tests the first that fails (`refused-exactly`).
+pub data Fails (o : Options) (f s : List ℕ) (e : Error) : Type 0 where
+  by-forced : forcedRule (o .forced) (o .reading) f ≡ norule e → Fails o f s e
+  by-head : {w : Tree} → forcedRule (o .forced) (o .reading) f ≡ rule w → headOf s ≡ head.Refused e → Fails o f s e
+  by-entry : {w u : Tree} {t : Tables} {i : ℕ} → forcedRule (o .forced) (o .reading) f ≡ rule w → headOf s ≡ head.Fields t → i < t .count
+      → entriesFrom o s t i 0 w ≡ rule u → entryStep o s u (readAt s t i) ≡ norule e → Fails o f s e

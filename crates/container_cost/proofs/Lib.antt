@@ -1,0 +1,3 @@
+mod Sums
+mod Cases
+mod Unique

@@ -1,0 +1,3 @@
+pub mod Mo
+pub mod Promise
+pub mod Private

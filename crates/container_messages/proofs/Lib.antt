@@ -1,0 +1,4 @@
+pub mod Originals
+pub mod Entries
+pub mod Accepts
+mod Unique

@@ -1,0 +1,24 @@
+use Rattle.container_messages.specs.Messages.{joined}
+use Rattle.container_messages.specs.declared.Original.the-variants.{Empty}
+use Rattle.promise.proofs.Told.{told}
+use borrow.Author.Needs.{needs}
+use Rattle.container_messages.proofs.header_of.Statement.{statement}
+use Rattle.container_messages.proofs.header_of.Tie as tie
+use Rattle.container_messages.proofs.header_of.Reads as reads
+use Rattle.container_messages.proofs.header_of.Lts as lts
+
+enum-known-translation : tie.Need-enum-known-translation
+enum-known-translation c = search needs
+
+enum-known-translation-2 : tie.Need-enum-known-translation-2
+enum-known-translation-2 c = search needs
+
+returns : tie.Need-returns
+returns c = told (joined Empty) (c .before .translation .given .1)
+
+returns-2 : tie.Need-returns-2
+returns-2 c = told (joined Empty) (c .before .translation2 .given .1)
+
+pub header-of-spec : {M : Type 1} → statement M
+header-of-spec =
+    tie.close (tie.spec enum-known-translation enum-known-translation-2 returns returns-2)

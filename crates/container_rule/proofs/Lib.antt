@@ -1,0 +1,4 @@
+pub mod Headers
+pub mod Entry
+pub mod Rules
+mod Unique

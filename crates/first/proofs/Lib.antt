@@ -1,3 +1,0 @@
-pub mod Headers
-pub mod Entry
-mod Unique

@@ -1,0 +1,185 @@
+-- The three demands, over the functions that a host links. Each function's promise is its contract in src/lib.rt; here the promises are put
+-- together. In all of it s is the file, f the text of the forced rule, o the options; r and Q are what `gettext_c_load` left: its number
+-- and the head of the record, and the arrays of the rule. "Unaltered" is that the later calls get this very head and these arrays.
+-- Assumes nothing.
+use Prim.{tt}
+use Prim.Native.Nat.{ℕ, _+_, _^_, _<_, _≤_}
+use mathlib.Core.Path.{_≡_, refl, sym, ap, _∙_}
+use mathlib.Core.Bool.{true}
+use mathlib.Core.List.{List, []}
+use native.Mathlib.Omega.{arith}
+use lib.ListN.{length, getD, take, drop}
+use contract.Lifetimes.{Lfts}
+use borrow.Fn.Kinds.{PK, RK, Dens, In}
+use Rattle.refusal.specs.Numbers.{numberOf, outcomeNumber}
+use Rattle.refusal.specs.declared.Error.{Error}
+use Rattle.refusal.specs.declared.Error.the-variants as error
+use Rattle.rules.specs.Tree.{Tree, defaultTree}
+use Rattle.rules.specs.Value.{evalTree}
+use Rattle.rules.specs.Range.{rateTree}
+use Rattle.rules.specs.Pool.{Pool}
+use Rattle.rules.specs.Store.{store, blank}
+use Rattle.rules.specs.Answer.{formOf, resolvedOf, ratedOf, fitOf}
+use Rattle.rules.specs.declared.Value.{Value}
+use Rattle.rules.specs.declared.Value.the-variants as value
+use Rattle.rules.specs.declared.Resolved.{Resolved}
+use Rattle.rules.specs.declared.Resolved.the-variants as resolved
+use Rattle.rules.specs.declared.Rated.{Rated}
+use Rattle.rules.specs.declared.Rated.the-variants as rated
+use Rattle.rules.specs.declared.Fit.{Fit}
+use Rattle.rules.specs.declared.Fit.the-variants as fit
+use Rattle.rules.proofs.Forms.{rated-forms}
+use Rattle.rules.proofs.Fits.{Ranged, fits-ranged}
+use Rattle.container_layout.specs.Mo.{segments}
+use Rattle.lookup_scan.proofs.Last.{Last, last-hit}
+use Rattle.lookup.specs.declared.Reason.{Reason}
+use Rattle.lookup.specs.declared.Reason.the-variants as reason
+use Rattle.lookup.proofs.Rated.{Names, rated-lookup}
+use Rattle.container.specs.Catalog.{Answer, accepted, refused, noTables, load, treeIn}
+use Rattle.container.specs.declared.Options.{Options}
+use Rattle.host.specs.Host.{tablesIn, nodesIn, rootIn, ownFor, answerOf, ratingOf, fitsOf}
+use Rattle.host.specs.declared.Loaded.{Loaded}
+use Rattle.host.specs.declared.Answer as host-answer
+use Rattle.host.specs.declared.Rating.{Rating}
+use Rattle.host.specs.declared.Fits.{Fits}
+use Rattle.gettext_c.specs.Record.{Loads, counted}
+use Rattle.gettext_c.proofs.Fresh.{fresh-resolves, fresh-length}
+use Rattle.gettext_c.proofs.gettext_c_empty.Reads as empty
+use Rattle.gettext_c.proofs.gettext_c_empty.Kinds as empty-kinds
+use Rattle.gettext_c.proofs.gettext_c_load.Reads as load-reads
+use Rattle.gettext_c.proofs.gettext_c_load.Kinds as load-kinds
+use Rattle.gettext_c.proofs.gettext_c_gettext.Reads as gettext
+use Rattle.gettext_c.proofs.gettext_c_gettext.Kinds as gettext-kinds
+use Rattle.gettext_c.proofs.gettext_c_pgettext.Reads as pgettext
+use Rattle.gettext_c.proofs.gettext_c_pgettext.Kinds as pgettext-kinds
+use Rattle.gettext_c.proofs.gettext_c_ngettext.Reads as ngettext
+use Rattle.gettext_c.proofs.gettext_c_ngettext.Kinds as ngettext-kinds
+use Rattle.gettext_c.proofs.gettext_c_npgettext.Reads as npgettext
+use Rattle.gettext_c.proofs.gettext_c_npgettext.Kinds as npgettext-kinds
+use Rattle.gettext_c.proofs.gettext_c_rating.Reads as rating
+use Rattle.gettext_c.proofs.gettext_c_rating.Kinds as rating-kinds
+use Rattle.gettext_c.proofs.gettext_c_fits.Reads as fits
+use Rattle.gettext_c.proofs.gettext_c_fits.Kinds as fits-kinds
+use Rattle.gettext_c.proofs.gettext_c_resolve.Reads as resolve
+use Rattle.gettext_c.proofs.gettext_c_resolve.Kinds as resolve-kinds
+use Rattle.gettext_c.proofs.gettext_c_is_utf8.Reads as is-utf8
+use Rattle.gettext_c.proofs.gettext_c_is_utf8.Kinds as is-utf8-kinds
+
+-- 1. No input stops the host. No function asks anything of its caller: `Pre` is what it requires, as the check reads it from the source.
+-- That it ends, and touches nothing outside what is lent to it, is what the check proves of every function.
+abbrev AsksNothing : (n : ℕ) (ps : List (PK n)) → In n ps → Type 0
+AsksNothing n ps Pre = (κs : Lfts n) (a : Dens κs ps) → Pre κs a
+
+pub nothing-asked : AsksNothing 3 empty-kinds.ps empty.Pre × AsksNothing 4 load-kinds.ps load-reads.Pre × AsksNothing 1 gettext-kinds.ps gettext.Pre
+    × AsksNothing 1 pgettext-kinds.ps pgettext.Pre × AsksNothing 1 ngettext-kinds.ps ngettext.Pre × AsksNothing 1 npgettext-kinds.ps npgettext.Pre
+    × AsksNothing 1 rating-kinds.ps rating.Pre × AsksNothing 1 fits-kinds.ps fits.Pre × AsksNothing 1 resolve-kinds.ps resolve.Pre
+    × AsksNothing 1 is-utf8-kinds.ps is-utf8.Pre
+nothing-asked = (λ κs a. tt, λ κs a. tt, λ κs a. tt, λ κs a. tt, λ κs a. tt, λ κs a. tt, λ κs a. tt, λ κs a. tt, λ κs a. tt, λ κs a. tt)
+
+-- a refused load gives the empty catalog
+refused-empty : (a : Answer) {Q : Pool} {r : Loaded} → Loads a Q r → (r .number ≡ 0 → ⊥) → (tablesIn (r .head) ≡ noTables) × (Q ≡ store defaultTree 0 blank)
+refused-empty (accepted t u) h n = absurd (n (h .number-is))
+refused-empty (refused e) h n = (h .tables-are, h .rule-is)
+
+pub refused-load : (o : Options) (f s : List ℕ) {Q : Pool} {r : Loaded} → Loads (load o f s) Q r → (r .number ≡ 0 → ⊥) → (tablesIn (r .head) ≡ noTables) × (Q ≡ store defaultTree 0 blank)
+refused-load o f s h n = refused-empty (load o f s) h n
+
+-- a refused lookup gives the caller's own id or plural id, with 10 or 11
+pub data Refused : ℕ → Type 0 where
+  zero-modulus : Refused (numberOf error.ZeroModulus)
+  bad-record : Refused (numberOf error.BadRecord)
+
+pub refused-lookup : (own : ℕ) (a : Reason) → (answerOf own a .number ≡ 0 → ⊥) → (answerOf own a .which ≡ own) × Refused (answerOf own a .number)
+refused-lookup own reason.StaleLength n = (refl, bad-record)
+refused-lookup own reason.NoTree n = (refl, bad-record)
+refused-lookup own reason.ZeroModulus n = (refl, zero-modulus)
+refused-lookup own reason.NoEntry n = absurd (n refl)
+refused-lookup own (reason.TooFewSegments i) n = absurd (n refl)
+refused-lookup own (reason.Answered i form start len) n = absurd (n refl)
+
+-- 3. The rule that was loaded, at a count: it takes no remainder by zero, and yields a form from lo to hi, so below k; that is what the
+-- function `gettext_c_resolve` tells.
+pub record Yields (t : Tree) (lo hi k n : ℕ) : Type 0 where
+  pub form : ℕ
+  pub value : evalTree t n ≡ value.Is form
+  pub low : lo ≤ form
+  pub high : form ≤ hi
+  pub below : form < k
+
+-- An answer is the segment of entry i that a form names, where it lies in the file.
+pub record IsSegment (s : List ℕ) (i start len form : ℕ) (a : host-answer.Answer) : Type 0 where
+  pub number-0 : a .number ≡ 0
+  pub which-0 : a .which ≡ 0
+  pub entry-is : a .entry ≡ i
+  pub form-is : a .form ≡ form
+  pub inside : a .start + a .len ≤ length s
+  pub bytes : take (a .len) (drop (a .start) s) ≡ getD (segments s start len) form []
+
+formed : (v : Value) {x : ℕ} → formOf v ≡ resolved.Form x → v ≡ value.Is x
+formed (value.Is y) {x} e = let q : y ≡ x = cc in rw q
+formed value.ZeroModulus e = absurd (let z : _≡_ {A = ℕ} 0 1 = cc in omega arith)
+
+-- what a host reads off a rating and off a fit
+rated-1 : (x : Rated) → ratingOf x .rated ≡ 1 → x ≡ rated.Range (ratingOf x .lowest) (ratingOf x .highest)
+rated-1 (rated.Range l h) e = refl
+rated-1 rated.Unrated e = absurd (omega arith)
+rated-1 rated.NoTree e = absurd (omega arith)
+
+fits-1 : (x : Fit) → fitsOf x .fits ≡ 1 → x ≡ fit.Yes
+fits-1 fit.Yes e = refl
+fits-1 fit.No e = absurd (omega arith)
+fits-1 fit.NoTree e = absurd (omega arith)
+
+-- an accepted load, and the record unaltered
+module _ (o : Options) (f s : List ℕ) {Q : Pool} {r : Loaded} (loads : Loads (load o f s) Q r) (number-0 : r .number ≡ 0) where
+  -- For a rule rated lo to hi and a k above hi, at a count: what the rule yields; and every plural lookup in the very bytes that were loaded,
+  -- whose last entry with the key stores at least k segments, answers the segment that this form names.
+  pub record Kept (lo hi k n : ℕ) : Type 0 where
+    pub yields : Yields (treeIn (load o f s)) lo hi k n
+    pub answers : (key : List ℕ) (i start len : ℕ) → Last s (tablesIn (r .head)) key (tablesIn (r .head) .count) i start len → k ≤ length (segments s start len)
+        → IsSegment s i start len (yields .form) (answerOf (ownFor n) (counted s (r .head) Q key n))
+
+  abbrev range : Rated
+  range = ratedOf Q (nodesIn (r .head)) (rootIn (r .head))
+
+  kept : {lo hi : ℕ} → range ≡ rated.Range lo hi → (k : ℕ) → hi < k → (n : ℕ) → n < 2 ^ 64 → Kept lo hi k n
+  kept {lo} {hi} is k below n count =
+      let v = rated-forms Q (nodesIn (r .head)) (rootIn (r .head)) lo hi is n count in
+      record {
+        yields = record {
+          form = v .form;
+          value = formed (evalTree (treeIn (load o f s)) n) (sym (fresh-resolves o f s loads n) ∙ v .is);
+          low = v .low;
+          high = v .high;
+          below = omega (arith, v .high);
+        };
+        answers = λ key i start len w m.
+        let a = rated-lookup s (tablesIn (r .head)) Q (nodesIn (r .head)) (rootIn (r .head)) key lo hi k n is below count (fresh-length o f s loads number-0)
+        (last-hit s (tablesIn (r .head)) key w) m in
+        named (v .is) a;
+      }
+    where
+      same-form : {x y : ℕ} {u : Resolved} → u ≡ resolved.Form x → u ≡ resolved.Form y → y ≡ x
+      same-form e g = cc
+
+      named : {i start len x : ℕ} {u : Resolved} {a : Reason} → u ≡ resolved.Form x → Names s u i start len lo hi a → IsSegment s i start len x (answerOf (ownFor n) a)
+      named {i} {start} {len} {x} e a =
+          let q : a .form ≡ x = same-form e (a .value) in
+          rw (a .is, ← q) (record { number-0 = refl; which-0 = refl; entry-is = refl; form-is = refl; inside = a .inside; bytes = a .text })
+
+  -- by the rating: `rated` is 1 and the highest is below k
+  pub demand-3 : (q : Rating) → q ≡ ratingOf range → q .rated ≡ 1 → (k : ℕ) → q .highest < k → (n : ℕ) → n < 2 ^ 64 → Kept (q .lowest) (q .highest) k n
+  demand-3 q e g k below n count =
+      let x : range ≡ rated.Range (q .lowest) (q .highest) = rw e (rated-1 range (rw e at g)) in
+      kept x k below n count
+
+  -- by `fits`, which is 1: the rule then has a range, whose highest is below k
+  pub record Fitting (k n : ℕ) : Type 0 where
+    pub range : Ranged Q (nodesIn (r .head)) (rootIn (r .head)) k
+    pub kept : Kept (range .lowest) (range .highest) k n
+
+  pub demand-3-fits : (k : ℕ) (q : Fits) → q ≡ fitsOf (fitOf Q (nodesIn (r .head)) (rootIn (r .head)) k) → q .fits ≡ 1 → (n : ℕ) → n < 2 ^ 64 → Fitting k n
+  demand-3-fits k q e g n count =
+      let x : fitOf Q (nodesIn (r .head)) (rootIn (r .head)) k ≡ fit.Yes = fits-1 _ (rw e at g) in
+      let w = fits-ranged Q (nodesIn (r .head)) (rootIn (r .head)) k x in
+      record { range = w; kept = kept (w .is) k (w .below) n count }

@@ -1,0 +1,46 @@
+-- What the exported functions put together. Assumes nothing.
+use Prim.Native.Nat.{ℕ, _<_}
+use mathlib.Core.Path.{_≡_, ap, ap₂, _∙_}
+use mathlib.Core.List.{List}
+use Rattle.refusal.specs.Numbers.{outcomeNumber}
+use Rattle.refusal.specs.declared.Outcome.the-variants.{Loaded}
+use Rattle.rules.specs.Tree.{defaultTree}
+use Rattle.rules.specs.Pool.{Pool}
+use Rattle.container.specs.Catalog.{Answer, load, treeIn}
+use Rattle.container.specs.Promise as promise
+use Rattle.container.specs.declared.Options.{Options}
+use Rattle.container.specs.declared.Loading.{Loading}
+use Rattle.container.proofs.Stages.{some-nodes}
+use Rattle.host.specs.Host as host
+use Rattle.host.specs.Host.{headOf, loadedOf}
+use Rattle.host.specs.declared.Loaded as loaded
+use Rattle.gettext_c.specs.Record.{Loads, IsEmpty}
+
+-- a loaded rule has a node
+pub loaded-nodes : (a : Answer) {Q : Pool} {r : Loading} → promise.Loads a Q r → 0 < r .nodes
+loaded-nodes a h = some-nodes (treeIn a) (h .nodes-are)
+
+pub loads : (a : Answer) {Q : Pool} {r : Loading} {q : loaded.Loaded} → promise.Loads a Q r → q ≡ loadedOf r → host.tablesIn (q .head) ≡ r .tables → Loads a Q q
+loads a {r = r} h e f =
+    record {
+      number-is = ap (λ (x : loaded.Loaded). x .number) e ∙ ap outcomeNumber (h .outcome-is);
+      head-is = ap (λ (x : loaded.Loaded). x .head) e ∙ ap₂ headOf (h .tables-are) (h .nodes-are);
+      tables-are = f ∙ h .tables-are;
+      rule-is = h .rule-is;
+    }
+
+-- the options are those that the flags say
+pub loads-by : (f s : List ℕ) {o p : Options} {Q : Pool} {r : Loading} → o ≡ p → promise.Loads (load o f s) Q r → promise.Loads (load p f s) Q r
+loads-by f s e h = rw e at h
+
+pub empty-nodes : {Q : Pool} {r : Loading} → promise.Empties Loaded Q r → 0 < r .nodes
+empty-nodes h = some-nodes defaultTree (h .nodes-are)
+
+pub empties : {Q : Pool} {r : Loading} {q : loaded.Loaded} → promise.Empties Loaded Q r → q ≡ loadedOf r → host.tablesIn (q .head) ≡ r .tables → IsEmpty Q q
+empties h e f =
+    record {
+      number-is = ap (λ (x : loaded.Loaded). x .number) e ∙ ap outcomeNumber (h .outcome-is);
+      head-is = ap (λ (x : loaded.Loaded). x .head) e ∙ ap₂ headOf (h .tables-are) (h .nodes-are);
+      tables-are = f ∙ h .tables-are;
+      rule-is = h .rule-is;
+    }

@@ -1,0 +1,38 @@
+-- The record as a host holds it: its head, seven numbers, and the arrays of its rule, as a pool. What a load leaves in it, and what lookups
+-- answer by it.
+use Prim.Native.Nat.{ℕ}
+use mathlib.Core.Path.{_≡_}
+use mathlib.Core.List.{List}
+use Rattle.refusal.specs.Numbers.{outcomeNumber}
+use Rattle.rules.specs.Tree.{defaultTree}
+use Rattle.rules.specs.Pool.{Pool}
+use Rattle.rules.specs.Store.{store, size, blank}
+use Rattle.rules.specs.Answer.{resolvedOf}
+use Rattle.lookup_scan.specs.Keys.{lastWith}
+use Rattle.lookup.specs.Lookup.{singular, plural}
+use Rattle.lookup.specs.declared.Reason.{Reason}
+use Rattle.container.specs.Catalog.{Answer, noTables, tablesIn, treeIn}
+use Rattle.container.specs.Promise.{outcomeOf}
+use Rattle.host.specs.Host as host
+use Rattle.host.specs.Host.{headOf, nodesIn, rootIn}
+use Rattle.host.specs.declared.Loaded.{Loaded}
+
+-- a load answers the number, the head, which says the tables, and the arrays of its answer; Q are the arrays at exit
+pub record Loads (a : Answer) (Q : Pool) (r : Loaded) : Type 0 where
+  pub number-is : r .number ≡ outcomeNumber (outcomeOf a)
+  pub head-is : r .head ≡ headOf (tablesIn a) (size (treeIn a))
+  pub tables-are : host.tablesIn (r .head) ≡ tablesIn a
+  pub rule-is : Q ≡ store (treeIn a) 0 blank
+
+pub record IsEmpty (Q : Pool) (r : Loaded) : Type 0 where
+  pub number-is : r .number ≡ 0
+  pub head-is : r .head ≡ headOf noTables (size defaultTree)
+  pub tables-are : host.tablesIn (r .head) ≡ noTables
+  pub rule-is : Q ≡ store defaultTree 0 blank
+
+-- a lookup of a key in the file s by a head h, and one with a count and the rule P
+abbrev pub found : List ℕ → List ℕ → List ℕ → Reason
+found s h key = singular s (host.tablesIn h) (lastWith s (host.tablesIn h) key)
+
+abbrev pub counted : List ℕ → List ℕ → Pool → List ℕ → ℕ → Reason
+counted s h P key n = plural s (host.tablesIn h) (resolvedOf P (nodesIn h) (rootIn h) n) (lastWith s (host.tablesIn h) key)

@@ -1,5 +1,0 @@
-pub mod Choice
-pub mod Cases
-pub mod Sound
-pub mod Complete
-pub mod Steps

@@ -1,4 +1,0 @@
-pub mod Keys
-pub mod Entries
-pub mod Scan
-pub mod Unique

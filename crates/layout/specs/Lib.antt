@@ -1,2 +1,0 @@
-pub mod Mo
-pub mod Promise

@@ -1,0 +1,72 @@
+-- A key that is context, byte 4 and id, compared where it lies. Assumes nothing.
+use Prim.Native.Nat.{ℕ, _+_, _-_, _<_, _≤_}
+use mathlib.Core.Path.{_≡_, refl, sym, ap, _∙_}
+use mathlib.Core.Bool.{Bool, true, false, _&&_}
+use mathlib.Core.List.{List, [], _∷_, _++_}
+use native.Mathlib.Omega.{arith}
+use native.Mathlib.Numerals.{add-one}
+use lib.ListN.{length, getD, take, drop, length-append}
+use lib.Dec.{eqb}
+use borrow.Author.Tests.{ne-eqb}
+use Rattle.text.specs.Bytes.{same}
+use Rattle.text.proofs.Tests.{and-none, and-assoc}
+use Rattle.text.proofs.Walk.{part-from}
+use Rattle.text.proofs.Same.{other-length}
+use Rattle.lookup_scan.specs.Keys.{keyOf}
+use Rattle.lookup_scan.specs.Private.{Sized}
+use Rattle.lookup_scan.specs.declared.Size.{Size}
+use Rattle.lookup_scan.specs.declared.Size.the-variants.{Is, TooLong}
+
+same-split : (c i key : List ℕ) → length c < length key
+    → same (c ++ 4 ∷ i) key ≡ (same c (take (length c) key) && (eqb 4 (getD key (length c) 0) && same i (drop (length c + 1) key)))
+unfolding same
+same-split [] i [] h = absurd (omega arith)
+same-split [] i (b ∷ key) h = refl
+same-split (x ∷ c) i [] h = absurd (omega arith)
+same-split (x ∷ c) i (b ∷ key) h =
+    ap (λ (t : Bool). eqb x b && t) (same-split c i key (omega arith))
+    ∙ sym (and-assoc (eqb x b) (same c (take (length c) key)) (eqb 4 (getD key (length c) 0) && same i (drop (length c + 1) key)))
+    ∙ rw (add-one, add-one)
+
+module _ (c i key : List ℕ) where
+  pub key-length : length (keyOf true c i) ≡ length c + 1 + length i
+  key-length = omega (arith, length-append c (4 ∷ i))
+
+  pub too-short : length key ≤ length c → false ≡ same (keyOf true c i) key
+  too-short h = sym (other-length (keyOf true c i) key (λ e. omega (arith, key-length)))
+
+  module _ (h : length c < length key) where
+    pub not-four : (getD key (length c) 0 ≡ 4 → ⊥) → false ≡ same (keyOf true c i) key
+    not-four e =
+        let z : eqb 4 (getD key (length c) 0) ≡ false = ne-eqb 4 (getD key (length c) 0) (λ q. e (sym q)) in
+        sym (same-split c i key h ∙ rw z (and-none (same c (take (length c) key))))
+
+    pub other-context : {r : Bool} → r ≡ same c (take (length c) key) → r ≡ false → false ≡ same (keyOf true c i) key
+    other-context e f = sym (same-split c i key h ∙ rw (← e, f))
+
+    pub by-id : {q r : Bool} → getD key (length c) 0 ≡ 4 → q ≡ same c (take (length c) key) → q ≡ true
+        → r ≡ same i (take (length key - (length c + 1)) (drop (length c + 1) key)) → r ≡ same (keyOf true c i) key
+    by-id f e g k =
+        k ∙ ap (same i) (part-from key (length c + 1))
+        ∙ sym (same-split c i key h ∙ rw (← e, g, f))
+
+-- the length of a key, in a file of that size
+module _ (size : ℕ) (c i : List ℕ) where
+  pub id-long : (given : Bool) → size ≤ length i → Sized size (keyOf given c i) TooLong
+  id-long true h = record { sizes = omega (arith, length-append c (4 ∷ i)) }
+  id-long false h = record { sizes = h }
+
+  pub id-only : (given : Bool) → given ≡ false → length i < size → Sized size (keyOf given c i) (Is (length i))
+  id-only given e h = rw e (record { sizes = (refl, h) })
+
+  pub both-long : (given : Bool) → given ≡ true → length i < size → size - length i - 1 ≤ length c → Sized size (keyOf given c i) TooLong
+  both-long given e h k = rw e (record { sizes = omega (arith, length-append c (4 ∷ i)) })
+
+  pub both-fit : (given : Bool) → given ≡ true → length i < size → length c < size - length i - 1 → Sized size (keyOf given c i) (Is (length c + 1 + length i))
+  both-fit given e h k = rw e (record { sizes = (omega (arith, length-append c (4 ∷ i)), omega arith) })
+
+pub sized-is : {size : ℕ} {r : Size} {n : ℕ} (key : List ℕ) → Sized size key r → r ≡ Is n → n ≡ length key
+sized-is {size} key q e = let z = rw e at (q .sizes) in z .0
+
+pub sized-long : {size : ℕ} {r : Size} (key : List ℕ) → Sized size key r → r ≡ TooLong → size ≤ length key
+sized-long key q e = rw e at (q .sizes)

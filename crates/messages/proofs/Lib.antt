@@ -1,4 +1,0 @@
-pub mod Told
-pub mod Originals
-pub mod Entries
-mod Unique

@@ -1,7 +1,0 @@
-mod Steps
-pub mod Joined
-mod ShippedSize
-mod StandardSize
-pub mod NeverFull
-pub mod Cases
-pub mod Unique

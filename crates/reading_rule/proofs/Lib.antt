@@ -1,0 +1,5 @@
+mod Steps
+pub mod Nodes
+pub mod Joined
+pub mod Cases
+pub mod Unique

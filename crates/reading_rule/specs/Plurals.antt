@@ -1,0 +1,66 @@
+-- Document 01, "Two readings of a rule"; "Numbers returned": what a text is as a plural rule in a reading, a tree or a refusal, and what
+-- the caller's arrays then hold.
+use Prim.Native.Nat.{ℕ}
+use mathlib.Core.Path.{_≡_}
+use mathlib.Core.Bool.{Bool, true, false}
+use mathlib.Core.List.{List}
+use lib.ListN.{length}
+use lib.Dec.{ltb}
+use Rattle.text.specs.Bytes.{all}
+use Rattle.text_trim.specs.Trim.{trim, six}
+use Rattle.refusal.specs.declared.Error.{Error}
+use Rattle.refusal.specs.declared.Error.the-variants.{PluralParsing, RuleTooLong}
+use Rattle.refusal.specs.declared.Outcome.{Outcome}
+use Rattle.refusal.specs.declared.Outcome.the-variants as outcome
+use Rattle.rules.specs.Tree as tree
+use Rattle.rules.specs.Tree.{Tree, defaultTree}
+use Rattle.rules.specs.Pool.{Pool}
+use Rattle.rules.specs.Store.{size, store, blank}
+use Rattle.reading_grammar.specs.Reading.{standard}
+use Rattle.reading_shipped.specs.Shipped.{shipped}
+use Rattle.reading_rule.specs.declared.Reading.{Reading}
+use Rattle.reading_rule.specs.declared.Reading.the-variants.{Shipped, Standard}
+use Rattle.reading_rule.specs.declared.Parsed.{Parsed}
+
+-- a rule, or why there is none
+pub data Parse : Type 0 where
+  rule : Tree → Parse
+  norule : Error → Parse
+
+-- what the chosen reading makes of a text
+abbrev pub readAs : Reading → List ℕ → tree.Reading
+readAs Shipped s = shipped s
+readAs Standard s = standard s
+
+unfoldable pub made : tree.Reading → Parse
+made (tree.tree t) = rule t
+made tree.none = norule PluralParsing
+
+abbrev pub isAscii : ℕ → Bool
+isAscii b = ltb b 128
+
+-- a trimmed text: its length comes first, then its bytes, then its reading
+unfoldable pub tested : Reading → List ℕ → Parse
+tested reading s =
+    elim (ltb 512 (length s)) [
+      | true ↦ norule RuleTooLong
+      | false ↦ elim (all isAscii s) [ true ↦ made (readAs reading s) | false ↦ norule PluralParsing ]
+    ]
+
+unfoldable pub parsed : Reading → List ℕ → Parse
+parsed reading s = tested reading (trim six s)
+
+-- the default rule stands for a refused one
+abbrev pub treeIn : Parse → Tree
+treeIn (rule t) = t
+treeIn (norule e) = defaultTree
+
+abbrev pub outcomeOf : Parse → Outcome
+outcomeOf (rule t) = outcome.Loaded
+outcomeOf (norule e) = outcome.Refused e
+
+-- the outcome, and the tree alone in the arrays, which at exit are Q
+pub record Parses (p : Parse) (Q : Pool) (r : Parsed) : Type 0 where
+  pub outcome : r .outcome ≡ outcomeOf p
+  pub nodes : r .nodes ≡ size (treeIn p)
+  pub stored : Q ≡ store (treeIn p) 0 blank

@@ -1,0 +1,72 @@
+-- `apply::apply` meets its contract: each return is the definition at the operator that the tests before it leave.
+use mathlib.Core.Path.{refl}
+use borrow.Author.Tests.{eq-eqb, ne-eqb}
+use native.Mathlib.Omega.{arith}
+use Rattle.rules.specs.Value.{binary, truthV}
+use Rattle.rules.specs.Pool.{opOf, opAt}
+use Rattle.rules.proofs.Operators.{op-rem}
+use Rattle.rules_operators.proofs.Operators.{op-cmp}
+use Rattle.rules_operators.proofs.Given.{is-number, is-zero}
+use borrow.Author.Needs.{needs}
+use Rattle.rules_operators.proofs.apply.Statement.{statement}
+use Rattle.rules_operators.proofs.apply.Tie as tie
+
+compares-requires : tie.Need-compares-requires
+compares-requires c κs = search needs
+
+truth-requires : tie.Need-truth-requires
+truth-requires c κs = search needs
+
+returns : tie.Need-returns
+unfolding binary
+returns c = is-number (rw (op-cmp _ (c .before .before .if1 .taken), ← c .before .compares .ensures)) (c .truth .ensures)
+
+returns-2 : tie.Need-returns-2
+unfolding binary opOf opAt
+returns-2 c = is-number (rw (c .before .if2 .taken, eq-eqb _ _ (c .if3 .taken))) refl
+
+truth-requires-2 : tie.Need-truth-requires-2
+truth-requires-2 c κs = search needs
+
+returns-3 : tie.Need-returns-3
+unfolding binary truthV opOf opAt
+returns-3 c = is-number (rw (c .before .before .if2 .taken, ne-eqb _ _ (c .before .if3 .left))) (c .truth2 .ensures)
+
+truth-requires-3 : tie.Need-truth-requires-3
+truth-requires-3 c κs = search needs
+
+returns-4 : tie.Need-returns-4
+unfolding binary truthV opOf opAt
+returns-4 c = is-number (rw (c .before .before .if4 .taken, eq-eqb _ _ (c .before .if5 .taken))) (c .truth3 .ensures)
+
+returns-5 : tie.Need-returns-5
+unfolding binary opOf opAt
+returns-5 c = is-number (rw (c .before .if4 .taken, ne-eqb _ _ (c .if5 .left))) refl
+
+returns-6 : tie.Need-returns-6
+unfolding binary
+returns-6 c = is-zero (rw (op-rem (c .before .before .before .before .args .code) (omega arith), eq-eqb _ _ (c .if6 .taken))) refl refl
+
+rem-result : tie.Need-rem-result
+rem-result c = search needs
+
+returns-7 : tie.Need-returns-7
+unfolding binary
+returns-7 c = is-number (rw (op-rem (c .before .before .before .before .args .code) (omega arith), ne-eqb _ _ (c .if6 .left))) refl
+
+pub apply-spec : {M : Type 1} → statement M
+apply-spec =
+    tie.close
+    (tie.spec
+    compares-requires
+    truth-requires
+    returns
+    returns-2
+    truth-requires-2
+    returns-3
+    truth-requires-3
+    returns-4
+    returns-5
+    returns-6
+    rem-result
+    returns-7)

@@ -1,0 +1,253 @@
+-- The tree test place by place: what a mark says of an operand, what a failed operand or node says of the whole, and that the values
+-- are not looked at.
+use mathlib.Core.Path.{_≡_, refl, sym, ap, _∙_}
+use mathlib.Core.Bool.{Bool, true, false, not, _&&_, and-false}
+use mathlib.Core.List.{List, [], _∷_, _++_}
+use mathlib.Core.Logic.{_⊎_, inl, inr, ⊎-elim}
+use Prim.Native.Nat.{ℕ, zero, suc, _+_, _<_, _≤_}
+use native.Mathlib.Omega.{arith}
+use native.Mathlib.Nat.{eq-or-lt-of-le, le-of-suc-le-suc}
+use native.Mathlib.Numerals.{add-one}
+use lib.ListN.{length, getD, set, replicate, length-set, length-replicate, getD-replicate}
+use lib.Seq.{getD-set-same, getD-set-other}
+use lib.Dec.{leb, ltb, eqb}
+use borrow.Author.Tests.{lt-ltb, le-ltb, le-leb, lt-leb, leb-true, leb-false, ltb-true, eqb-true, eqb-false, eq-eqb, ne-eqb}
+use Rattle.rules.specs.Pool.{Pool, pool, code, operand, known, arity, operandsTo, operands, allBelow, used, member, distinct, shaped, isTree}
+use Rattle.rules_tree.specs.Marks.{Unmarked, Marked, Took, Placed, Passes}
+use Rattle.rules.proofs.Operators.{never}
+use Rattle.rules.proofs.Places.{member-head, member-tail}
+use Rattle.rules.proofs.Trees.{both-left, both-right, just-two}
+
+-- the answers of the test of one operand
+module _ {q x p : ℕ} (m : List ℕ) (e : q ≡ x) where
+  pub took-high : p ≤ q → Took x p m m false
+  took-high h = record { answer = rw (le-ltb x p (omega arith)); marks = λ d. never d }
+
+  pub took-marked : q < p → (getD m q 0 ≡ 0 → ⊥) → Took x p m m false
+  took-marked h d = record {
+    answer = rw (lt-ltb x p (omega arith)) (sym (ne-eqb _ _ (rw e at d)));
+    marks = λ d. never d;
+  }
+
+  pub took-now : q < p → getD m q 0 ≡ 0 → Took x p m (set m q 1) true
+  took-now h d = record {
+    answer = rw (lt-ltb x p (omega arith)) (sym (eq-eqb _ _ (rw e at d)));
+    marks = λ f. rw e;
+  }
+
+-- a mark more
+decide : (i q : ℕ) → (i ≡ q) ⊎ (i ≡ q → ⊥)
+decide i q = go (eqb i q) refl
+  where
+    go : (b : Bool) → eqb i q ≡ b → (i ≡ q) ⊎ (i ≡ q → ⊥)
+    go true e = inl (eqb-true i q e)
+    go false e = inr (eqb-false i q e)
+
+-- no place is marked at the start
+pub cleared : (n : ℕ) → Unmarked (replicate n 0)
+cleared n = record { none = λ q h. getD-replicate {A = ℕ} n q 0 0 (rw (length-replicate {A = ℕ} n 0) at h) }
+
+unmarked : {m : List ℕ} → Unmarked m → Marked m []
+unfolding member distinct
+unmarked k = record { says = λ q h. rw (k .none q h); apart = refl }
+
+-- an operand that was taken lies below its parent, and is one of the marked now
+module _ {q p : ℕ} {m n xs : List ℕ} {r : Bool} (k : Marked m xs) (few : p ≤ length m) (t : Took q p m n r) where
+  taken-fresh : r ≡ true → (q < p) × (member q xs ≡ false)
+  taken-fresh e =
+      let d : (ltb q p && eqb (getD m q 0) 0) ≡ true = sym (t .answer) ∙ e in
+      let l : q < p = ltb-true q p (both-left (ltb q p) _ d) in
+      (l, sym (k .says q (omega arith)) ∙ ap not (both-right (ltb q p) _ d))
+
+  pub taken-below : r ≡ true → q < p
+  taken-below e = taken-fresh e .0
+
+  pub taken-marked : r ≡ true → Marked n (q ∷ xs)
+  unfolding distinct
+  taken-marked e = record { says = λ i h. rw w (marked-at i (rw (w, length-set) at h) (decide i q)); apart = rw (taken-fresh e .1) (k .apart) }
+    where
+      w : n ≡ set m q 1
+      w = t .marks e
+
+      l : q < length m
+      l = omega (arith, taken-fresh e .0)
+
+      marked-at : (i : ℕ) → i < length m → (i ≡ q) ⊎ (i ≡ q → ⊥) → not (eqb (getD (set m q 1) i 0) 0) ≡ member i (q ∷ xs)
+      marked-at i h (inl d) = rw (d, getD-set-same m q 1 0 l, member-head q q xs refl)
+      marked-at i h (inr d) = rw (getD-set-other m q i 1 0 d, member-tail q i xs d) (k .says i h)
+
+  pub taken-long : r ≡ true → length n ≡ length m
+  taken-long e = rw (t .marks e, length-set)
+
+  -- one that was not is not below its parent, or is an operand already
+  pub untaken : r ≡ false → (ltb q p && not (member q xs)) ≡ false
+  untaken e = go (ltb q p) refl
+    where
+      go : (b : Bool) → ltb q p ≡ b → (b && not (member q xs)) ≡ false
+      go true f =
+          let l : q < p = ltb-true q p f in
+          let z : eqb (getD m q 0) 0 ≡ false = rw f at (sym (t .answer) ∙ e) in
+          rw (← k .says q (omega arith), z)
+      go false f = refl
+
+and-drop : (x b y d : Bool) → (x && y) ≡ false → ((x && b) && (y && d)) ≡ false
+and-drop true true y d e = rw e
+and-drop true false y d e = refl
+and-drop false b y d e = refl
+
+and-keep : (x b y d : Bool) → (b && d) ≡ false → ((x && b) && (y && d)) ≡ false
+and-keep true true y d e = rw e (and-false y)
+and-keep true false y d e = refl
+and-keep false b y d e = refl
+
+and-split : (s k a d : Bool) → (k && (a && d)) ≡ false → ((s && (k && a)) && d) ≡ false
+and-split true true a d e = e
+and-split true false a d e = refl
+and-split false k a d e = refl
+
+-- the operands of a node before the j-th were taken
+pub record Taken (P : Pool) (p j : ℕ) (l m : List ℕ) : Type 0 where
+  pub lower : allBelow p (operandsTo P p j) ≡ true
+  pub marked : Marked m (operandsTo P p j ++ used P p)
+  pub long : length m ≡ length l
+  pub room : p ≤ length l
+
+module _ (P : Pool) (p : ℕ) where
+  -- an operand that was not taken fails the node
+  operand-fails : (a j : ℕ) → j < a → (ltb (operand P p j) p && not (member (operand P p j) (operandsTo P p j ++ used P p))) ≡ false
+      → (allBelow p (operandsTo P p a) && distinct (operandsTo P p a ++ used P p)) ≡ false
+  unfolding operandsTo allBelow distinct
+  operand-fails zero j h e = absurd (omega arith)
+  operand-fails (suc a) j h e =
+      ⊎-elim
+      (λ q. and-drop (ltb (operand P p a) p) _ (not (member (operand P p a) (operandsTo P p a ++ used P p))) _ (rw q at e))
+      (λ l. and-keep (ltb (operand P p a) p) _ (not (member (operand P p a) (operandsTo P p a ++ used P p))) _ (operand-fails a j l e))
+      (eq-or-lt-of-le (le-of-suc-le-suc h))
+
+module _ (P : Pool) (p : ℕ) {l : List ℕ} where
+  pub none-taken : p < length l → Marked l (used P p) → Taken P p 0 l l
+  unfolding operandsTo allBelow
+  none-taken h k = record { lower = refl; marked = k; long = refl; room = omega arith }
+
+  pub one-more : (j : ℕ) {m n : List ℕ} {r : Bool} → Taken P p j l m → Took (operand P p j) p m n r → r ≡ true → Taken P p (j + 1) l n
+  unfolding operandsTo allBelow
+  one-more j {m} k t e =
+      let few : p ≤ length m = omega (arith, k .room, k .long) in
+      record {
+        lower = rw (add-one, lt-ltb _ _ (taken-below (k .marked) few t e), k .lower);
+        marked = rw add-one (taken-marked (k .marked) few t e);
+        long = taken-long (k .marked) few t e ∙ k .long;
+        room = k .room;
+      }
+
+  -- the answers of the test of one node
+  pub unknown : {n : List ℕ} → 12 < code P p → Placed P p l n false
+  unknown h = record { answer = rw (le-ltb (code P p) 13 (omega arith)); marks = λ e. never e; long = λ e. never e }
+
+  pub refused : (j : ℕ) {m n : List ℕ} {r : Bool} → code P p ≤ 12 → j < arity (code P p) → Taken P p j l m → Took (operand P p j) p m n r
+      → r ≡ false → Placed P p l n false
+  unfolding operands
+  refused j h i k t e = record {
+    answer =
+        rw (lt-ltb (code P p) 13 (omega arith)) (sym (operand-fails P p (arity (code P p)) j i
+        (untaken (k .marked) (omega (arith, k .room, k .long)) t e)));
+    marks = λ e. never e;
+    long = λ e. never e;
+  }
+
+  pub placed : (j : ℕ) {m : List ℕ} → code P p ≤ 12 → j ≡ arity (code P p) → Taken P p j l m → Placed P p l m true
+  unfolding operands
+  placed j h i k =
+      let k' : Taken P p (arity (code P p)) _ _ = rw i at k in
+      record {
+        answer = rw (lt-ltb (code P p) 13 (omega arith), k' .lower, k' .marked .apart);
+        marks = λ e. k' .marked;
+        long = λ e. k .long;
+      }
+
+  -- the node of a leaf, and of a code with one, two and three operands, whose operands were taken
+  pub no-operand : {m : List ℕ} → code P p < 2 → Taken P p 0 l m → Placed P p l m true
+  no-operand h k = placed 0 (omega arith) (rw (arity, lt-ltb _ _ h)) k
+
+  pub one-operand : {m : List ℕ} → code P p ≡ 2 → Taken P p 1 l m → Placed P p l m true
+  one-operand h k = placed 1 (omega arith) (rw h) k
+
+  pub two-operands : {m : List ℕ} → 3 < code P p → code P p ≤ 12 → Taken P p 2 l m → Placed P p l m true
+  two-operands h i k = placed 2 i (sym (just-two (code P p) h)) k
+
+  -- a third operand is the last, so it decides
+  pub third-decides : (r : Bool) {m n : List ℕ} → code P p ≡ 3 → Taken P p 2 l m → Took (operand P p 2) p m n r → Placed P p l n r
+  third-decides true h k t = placed 3 (omega arith) (rw h) (one-more 2 k t refl)
+  third-decides false h k t = refused 2 (omega arith) (rw h (omega arith)) k t refl
+
+distinct-tail : (ys zs : List ℕ) → distinct zs ≡ false → distinct (ys ++ zs) ≡ false
+unfolding distinct
+distinct-tail [] zs e = e
+distinct-tail (y ∷ ys) zs e = rw (distinct-tail ys zs e) (and-false (not (member y (ys ++ zs))))
+
+-- every place below k was passed
+pub record Passed (P : Pool) (k : ℕ) (m : List ℕ) : Type 0 where
+  pub whole : shaped P k ≡ true
+  pub marked : Marked m (used P k)
+
+module _ (P : Pool) where
+  pub none-passed : {m : List ℕ} → Unmarked m → Passed P 0 m
+  unfolding shaped used
+  none-passed k = record { whole = refl; marked = unmarked k }
+
+  pub one-passed : (p : ℕ) {m n : List ℕ} {r : Bool} → Passed P p m → Placed P p m n r → r ≡ true → Passed P (p + 1) n
+  unfolding shaped used
+  one-passed p k t e =
+      let d : (known (code P p) && (allBelow p (operands P p) && distinct (operands P p ++ used P p))) ≡ true = sym (t .answer) ∙ e in
+      let b = both-right (known (code P p)) _ d in
+      record {
+        whole = rw (add-one, k .whole, both-left (known (code P p)) _ d, both-left (allBelow p (operands P p)) _ b);
+        marked = rw add-one (t .marks e);
+      }
+
+  -- what fails at the places below k fails the whole
+  whole-fails : (k p : ℕ) → k ≤ p → (shaped P k && distinct (used P k)) ≡ false → (shaped P p && distinct (used P p)) ≡ false
+  unfolding shaped used
+  whole-fails k zero h e = let z : k ≡ 0 = omega arith in rw z at e
+  whole-fails k (suc p) h e =
+      ⊎-elim
+      (λ q. rw q at e)
+      (λ l. go (shaped P p) (known (code P p) && allBelow p (operands P p)) (whole-fails k p (le-of-suc-le-suc l) e))
+      (eq-or-lt-of-le h)
+    where
+      go : (s b : Bool) → (s && distinct (used P p)) ≡ false → ((s && b) && distinct (operands P p ++ used P p)) ≡ false
+      go true b f = rw (distinct-tail (operands P p) (used P p) f) (and-false b)
+      go false b f = refl
+
+  -- the answers of the test of all nodes
+  pub stopped : {m n : List ℕ} {r : Bool} (k p : ℕ) → p < k → Placed P p m n r → r ≡ false → Passes P k p
+  unfolding shaped used
+  stopped k p h t e = record {
+    all = λ d. absurd (omega arith);
+    fails = λ d. whole-fails (suc p) k h (and-split (shaped P p) (known (code P p)) (allBelow p (operands P p)) _ (sym (t .answer) ∙ e));
+  }
+
+  pub passed : {m : List ℕ} (k p : ℕ) → k ≤ p → Passed P p m → Passes P k p
+  passed k p h t = record { all = λ d. go (shaped P k && distinct (used P k)) refl; fails = λ d. absurd (omega arith) }
+    where
+      go : (b : Bool) → (shaped P k && distinct (used P k)) ≡ b → b ≡ true
+      go true f = refl
+      go false f = sym (whole-fails k p h f) ∙ rw (t .whole, t .marked .apart)
+
+-- the answers of the tree test
+module _ (P : Pool) (count root : ℕ) where
+  pub too-many : 512 < count → false ≡ isTree P count root
+  unfolding isTree
+  too-many h = rw (lt-leb count 512 h)
+
+  pub no-root : count ≤ 512 → count ≤ root → false ≡ isTree P count root
+  unfolding isTree
+  no-root h l = rw (le-leb count 512 h, le-ltb root count l)
+
+  pub tested : {r : ℕ} → count ≤ 512 → root < count → Passes P count r → leb count r ≡ isTree P count root
+  unfolding isTree
+  tested {r} h l t = rw (le-leb count 512 h, lt-ltb root count l) (go (leb count r) refl)
+    where
+      go : (b : Bool) → leb count r ≡ b → b ≡ (shaped P count && distinct (used P count))
+      go true e = sym (t .all (leb-true count r e))
+      go false e = sym (t .fails (leb-false count r e))

@@ -1,0 +1,33 @@
+-- `tree::are_codes` meets its contract: the codes are the digits of the sum to the base of 256.
+use native.Mathlib.Omega.{arith}
+use borrow.Author.Tests.{eqb-true}
+use Rattle.rules_tree.proofs.Groups.{four-digits}
+use borrow.Author.Needs.{needs}
+use Rattle.rules_tree.proofs.are_codes.Statement.{statement}
+use Rattle.rules_tree.proofs.are_codes.Tie as tie
+
+mul-result : tie.Need-mul-result
+mul-result c = search needs
+
+add-result : tie.Need-add-result
+add-result c = search needs
+
+mul-result-2 : tie.Need-mul-result-2
+mul-result-2 c = search needs
+
+add-result-2 : tie.Need-add-result-2
+add-result-2 c = search needs
+
+mul-result-3 : tie.Need-mul-result-3
+mul-result-3 c = search needs
+
+add-result-3 : tie.Need-add-result-3
+add-result-3 c = search needs
+
+returns : tie.Need-returns
+returns c = λ e. four-digits _ _ _ _ (omega arith) (omega arith) (omega arith) (omega arith) (eqb-true _ _ e)
+
+pub are-codes-spec : {M : Type 1} → statement M
+are-codes-spec =
+    tie.close
+    (tie.spec mul-result add-result mul-result-2 add-result-2 mul-result-3 add-result-3 returns)

@@ -1,7 +1,0 @@
-pub mod Cases
-mod Levels
-mod Written
-mod Fuel
-mod Steps
-mod Filled
-pub mod Unique

@@ -1,0 +1,31 @@
+-- What the functions behind the public ones promise.
+use Prim.Native.Nat.{ℕ, _+_, _<_, _≤_}
+use mathlib.Core.Path.{_≡_}
+use mathlib.Core.Bool.{Bool, true, false, not}
+use mathlib.Core.List.{List}
+use lib.ListN.{length, drop}
+use Rattle.text.specs.Bytes.{within, front}
+use Rattle.text.specs.declared.Run.{Run}
+use Rattle.text.specs.declared.Run.the-variants.{Within, Without}
+
+-- the bytes of a run
+abbrev pub inRun : Run → ℕ × ℕ → ℕ → Bool
+inRun Within bounds b = within bounds b
+inRun Without bounds b = not (within bounds b)
+
+-- 0 for a byte of the set, and 1 for any other
+pub record Flags (w : ℕ → Bool) (b r : ℕ) : Type 0 where
+  pub few : r ≤ 1
+  pub zero : r ≡ 0 → w b ≡ true
+  pub one : (r ≡ 0 → ⊥) → w b ≡ false
+
+-- the bytes from a place up to another are of the set
+abbrev pub Counted : (ℕ → Bool) → List ℕ → ℕ → ℕ → Type 0
+Counted w s from i = from + front w (drop from s) ≡ i + front w (drop i s)
+
+-- they are, and no whole block of bytes of the set comes next
+pub record Blocks (w : ℕ → Bool) (s : List ℕ) (from i : ℕ) : Type 0 where
+  pub counted : Counted w s from i
+  pub after : from ≤ i
+  pub inside : i ≤ length s
+  pub stops : i + 16 ≤ length s → front w (drop i s) < 16

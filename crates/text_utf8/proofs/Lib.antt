@@ -1,0 +1,9 @@
+pub mod Rows
+pub mod Tested
+pub mod Machine
+pub mod Plain
+pub mod Ascii
+pub mod Texts
+pub mod Scalars
+pub mod Cases
+pub mod Unique

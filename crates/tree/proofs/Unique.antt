@@ -1,9 +1,0 @@
--- The promise fixes its result: any two results that it allows on the same input are equal. `Post` is the promise as the check reads it
--- from the source.
-use mathlib.Core.Path.{sym, _∙_}
-use Rattle.promise.proofs.One.{One}
-use Rattle.tree.proofs.is_tree.Reads as is-tree
-use Rattle.tree.proofs.is_tree.Kinds as is-tree-kinds
-
-pub is-tree-one : One 1 is-tree-kinds.ps is-tree-kinds.r is-tree.Post
-is-tree-one κs a u v x y p q = p ∙ sym q

@@ -1,0 +1,338 @@
+//! Catalogs and their lookups.
+
+use crate::{ffi, Bytes, Error, Live, ParseOptions, Status};
+use std::fmt;
+use std::io::Read;
+
+/// Which text answers a lookup.
+#[derive(Clone, Copy, Debug, PartialEq, Eq, Hash)]
+pub enum Which {
+    /// A segment of the file.
+    Segment {
+        /// The index of the entry in the file's tables.
+        entry: usize,
+        /// Which of its translation's forms.
+        form: u64,
+    },
+    /// The caller's id.
+    Id,
+    /// The caller's plural id.
+    PluralId,
+}
+
+/// A lookup's text, and where it comes from.
+#[derive(Clone, Copy, Debug, PartialEq, Eq, Hash)]
+#[non_exhaustive]
+pub struct Answer<'t> {
+    /// How the lookup went.
+    pub status: Status,
+    /// The text.
+    pub text: &'t str,
+    /// Where it comes from.
+    pub which: Which,
+}
+
+/// A catalog: the bytes of a file, and the record of their load.
+///
+/// `Catalog` by itself owns its bytes, as that of gettext 0.4.0 does, so it can stand in a map, a `static` or an `Arc`.
+/// `Catalog<&[u8]>` reads a file where it lies; the texts that it finds live as long as the file. See [`Bytes`] for the others.
+///
+/// The record, of a fixed size, is one allocation; no string is copied. A catalog never changes, and it is `Send` and `Sync`.
+#[derive(Clone)]
+pub struct Catalog<B = Vec<u8>> {
+    // `text` relies on these two belonging together: they are set by a load and by `empty`, and nowhere changed.
+    file: B,
+    record: Box<ffi::Record>,
+}
+
+impl<B: Bytes> fmt::Debug for Catalog<B> {
+    fn fmt(&self, f: &mut fmt::Formatter<'_>) -> fmt::Result {
+        f.debug_struct("Catalog")
+            .field("bytes", &self.file.bytes().len())
+            .field("entries", &self.len())
+            .finish_non_exhaustive()
+    }
+}
+
+impl Default for Catalog {
+    fn default() -> Self {
+        Self::empty()
+    }
+}
+
+impl Catalog {
+    /// A catalog without entries, which answers every lookup with the caller's own text.
+    #[must_use]
+    pub fn empty() -> Self {
+        Catalog {
+            file: Vec::new(),
+            record: ffi::empty(),
+        }
+    }
+
+    /// Reads a file to its end and loads the catalog, with the default options.
+    ///
+    /// # Errors
+    ///
+    /// [`Error::Io`] if the file cannot be read, else the refusal of the load.
+    pub fn parse<R: Read>(reader: R) -> Result<Self, Error> {
+        ParseOptions::new().parse(reader)
+    }
+}
+
+impl<'f> Catalog<&'f [u8]> {
+    /// Loads the catalog that lies in `file`, which is lent, with the default options.
+    ///
+    /// # Errors
+    ///
+    /// The refusal of the load.
+    pub fn parse_slice(file: &'f [u8]) -> Result<Self, Error> {
+        ParseOptions::new().parse_slice(file)
+    }
+}
+
+impl<B: Bytes> Catalog<B> {
+    /// A file and the record of its load.
+    pub(crate) fn of(file: B, record: Box<ffi::Record>) -> Self {
+        Catalog { file, record }
+    }
+
+    /// Loads the catalog that lies in `file`, which it keeps, with the default options.
+    ///
+    /// # Errors
+    ///
+    /// The refusal of the load.
+    pub fn parse_bytes(file: B) -> Result<Self, Error> {
+        ParseOptions::new().parse_bytes(file)
+    }
+
+    /// How many entries the file has, the header counted in.
+    #[must_use]
+    pub fn len(&self) -> usize {
+        self.record.head.count
+    }
+
+    /// Whether the file has no entry.
+    #[must_use]
+    pub fn is_empty(&self) -> bool {
+        self.len() == 0
+    }
+
+    /// The translation of `msg_id`, or `msg_id` itself.
+    #[must_use]
+    pub fn gettext<'c, 't>(&'c self, msg_id: &'t str) -> &'t str
+    where
+        B: Live<'c, 't>,
+    {
+        self.answer_gettext(msg_id).text
+    }
+
+    /// The translation of `msg_id` in the form for `n`. Without one, `msg_id` if `n` is 1 and `msg_id_plural` otherwise.
+    #[must_use]
+    pub fn ngettext<'c, 't>(&'c self, msg_id: &'t str, msg_id_plural: &'t str, n: u64) -> &'t str
+    where
+        B: Live<'c, 't>,
+    {
+        self.answer_ngettext(msg_id, msg_id_plural, n).text
+    }
+
+    /// The translation of `msg_id` in the context `msg_context`, or `msg_id` itself.
+    #[must_use]
+    pub fn pgettext<'c, 't>(&'c self, msg_context: &str, msg_id: &'t str) -> &'t str
+    where
+        B: Live<'c, 't>,
+    {
+        self.answer_pgettext(msg_context, msg_id).text
+    }
+
+    /// The translation of `msg_id` in the context `msg_context` and in the form for `n`. Without one, `msg_id` if `n` is 1 and
+    /// `msg_id_plural` otherwise.
+    #[must_use]
+    pub fn npgettext<'c, 't>(
+        &'c self,
+        msg_context: &str,
+        msg_id: &'t str,
+        msg_id_plural: &'t str,
+        n: u64,
+    ) -> &'t str
+    where
+        B: Live<'c, 't>,
+    {
+        self.answer_npgettext(msg_context, msg_id, msg_id_plural, n)
+            .text
+    }
+
+    /// [`Catalog::gettext`], with how it went and where the text comes from.
+    #[must_use]
+    pub fn answer_gettext<'c, 't>(&'c self, msg_id: &'t str) -> Answer<'t>
+    where
+        B: Live<'c, 't>,
+    {
+        let answer = ffi::gettext(self.file.bytes(), &self.record, msg_id.as_bytes());
+        self.text(answer, msg_id, msg_id)
+    }
+
+    /// [`Catalog::ngettext`], with how it went and where the text comes from.
+    #[must_use]
+    pub fn answer_ngettext<'c, 't>(
+        &'c self,
+        msg_id: &'t str,
+        msg_id_plural: &'t str,
+        n: u64,
+    ) -> Answer<'t>
+    where
+        B: Live<'c, 't>,
+    {
+        let answer = ffi::ngettext(self.file.bytes(), &self.record, msg_id.as_bytes(), n);
+        self.text(answer, msg_id, msg_id_plural)
+    }
+
+    /// [`Catalog::pgettext`], with how it went and where the text comes from.
+    #[must_use]
+    pub fn answer_pgettext<'c, 't>(&'c self, msg_context: &str, msg_id: &'t str) -> Answer<'t>
+    where
+        B: Live<'c, 't>,
+    {
+        let (context, id) = (msg_context.as_bytes(), msg_id.as_bytes());
+        let answer = ffi::pgettext(self.file.bytes(), &self.record, context, id);
+        self.text(answer, msg_id, msg_id)
+    }
+
+    /// [`Catalog::npgettext`], with how it went and where the text comes from.
+    #[must_use]
+    pub fn answer_npgettext<'c, 't>(
+        &'c self,
+        msg_context: &str,
+        msg_id: &'t str,
+        msg_id_plural: &'t str,
+        n: u64,
+    ) -> Answer<'t>
+    where
+        B: Live<'c, 't>,
+    {
+        let (context, id) = (msg_context.as_bytes(), msg_id.as_bytes());
+        let answer = ffi::npgettext(self.file.bytes(), &self.record, context, id, n);
+        self.text(answer, msg_id, msg_id_plural)
+    }
+
+    /// [`Catalog::gettext`] over bytes. An id that is not UTF-8 is in no catalog, and comes back.
+    #[must_use]
+    pub fn gettext_bytes<'c, 't>(&'c self, msg_id: &'t [u8]) -> &'t [u8]
+    where
+        B: Live<'c, 't>,
+    {
+        let answer = ffi::gettext(self.file.bytes(), &self.record, msg_id);
+        self.bytes(answer, msg_id, msg_id)
+    }
+
+    /// [`Catalog::ngettext`] over bytes.
+    #[must_use]
+    pub fn ngettext_bytes<'c, 't>(
+        &'c self,
+        msg_id: &'t [u8],
+        msg_id_plural: &'t [u8],
+        n: u64,
+    ) -> &'t [u8]
+    where
+        B: Live<'c, 't>,
+    {
+        let answer = ffi::ngettext(self.file.bytes(), &self.record, msg_id, n);
+        self.bytes(answer, msg_id, msg_id_plural)
+    }
+
+    /// [`Catalog::pgettext`] over bytes.
+    #[must_use]
+    pub fn pgettext_bytes<'c, 't>(&'c self, msg_context: &[u8], msg_id: &'t [u8]) -> &'t [u8]
+    where
+        B: Live<'c, 't>,
+    {
+        let answer = ffi::pgettext(self.file.bytes(), &self.record, msg_context, msg_id);
+        self.bytes(answer, msg_id, msg_id)
+    }
+
+    /// [`Catalog::npgettext`] over bytes.
+    #[must_use]
+    pub fn npgettext_bytes<'c, 't>(
+        &'c self,
+        msg_context: &[u8],
+        msg_id: &'t [u8],
+        msg_id_plural: &'t [u8],
+        n: u64,
+    ) -> &'t [u8]
+    where
+        B: Live<'c, 't>,
+    {
+        let answer = ffi::npgettext(self.file.bytes(), &self.record, msg_context, msg_id, n);
+        self.bytes(answer, msg_id, msg_id_plural)
+    }
+
+    /// The lowest and the highest form that the plural rule can name, or `None` where the rule is not rated: then it may take a
+    /// remainder by zero.
+    ///
+    /// It is proved that a rated rule names for every count a form from the lowest to the highest.
+    #[must_use]
+    pub fn rating(&self) -> Option<(u64, u64)> {
+        let rating = ffi::rating(&self.record);
+        (rating.rated != 0).then_some((rating.lowest, rating.highest))
+    }
+
+    /// Whether the plural rule is rated and names forms below `k` alone.
+    #[must_use]
+    pub fn fits(&self, k: u64) -> bool {
+        ffi::fits(&self.record, k).fits != 0
+    }
+
+    /// The form that the plural rule names for `n`, or `None` where it takes a remainder by zero.
+    #[must_use]
+    pub fn resolve(&self, n: u64) -> Option<u64> {
+        let form = ffi::resolve(&self.record, n);
+        (form.number == 0).then_some(form.form)
+    }
+
+    // The file's part that an answer names, which lies in the file: `answer-inside` and `plural-inside`, crates/gettext_c/proofs/Right.antt.
+    fn segment<'c, 't>(&'c self, answer: ffi::Answer) -> &'t [u8]
+    where
+        B: Live<'c, 't>,
+    {
+        &self.file.live()[answer.start..][..answer.len]
+    }
+
+    fn text<'c, 't>(&'c self, answer: ffi::Answer, id: &'t str, plural_id: &'t str) -> Answer<'t>
+    where
+        B: Live<'c, 't>,
+    {
+        let (text, which) = match answer.which {
+            0 => {
+                // SAFETY: the record was written by the load of these very bytes, or is the empty one, and neither has changed since:
+                // both are private and nothing here lends them to be written, bytes that are lent or shared cannot be written, and
+                // `Bytes`, which is closed, answers the same bytes at every call. In a file that was loaded the segment that a lookup
+                // names is UTF-8, and the empty record has none: `answer-right`, `plural-right`, `empty-absent` and `empty-plural`,
+                // crates/gettext_c/proofs/Right.antt.
+                let text = unsafe { std::str::from_utf8_unchecked(self.segment(answer)) };
+                let which = Which::Segment {
+                    entry: answer.entry,
+                    form: answer.form,
+                };
+                (text, which)
+            }
+            1 => (id, Which::Id),
+            _ => (plural_id, Which::PluralId),
+        };
+        Answer {
+            status: Status::of(answer.number),
+            text,
+            which,
+        }
+    }
+
+    fn bytes<'c, 't>(&'c self, answer: ffi::Answer, id: &'t [u8], plural_id: &'t [u8]) -> &'t [u8]
+    where
+        B: Live<'c, 't>,
+    {
+        match answer.which {
+            0 => self.segment(answer),
+            1 => id,
+            _ => plural_id,
+        }
+    }
+}

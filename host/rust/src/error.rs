@@ -1,0 +1,146 @@
+//! Why a load is refused, and how a lookup went.
+
+use std::error;
+use std::fmt;
+use std::io;
+
+/// Why a catalog was not loaded.
+#[derive(Debug)]
+#[non_exhaustive]
+pub enum Error {
+    /// The file ends before something that it names.
+    Eof,
+    /// The first four bytes are not those of an MO file.
+    BadMagic,
+    /// A context, an id or a translation is not UTF-8.
+    DecodingError,
+    /// A line of the header has no colon.
+    MalformedMetadata,
+    /// An empty id stands at another entry than the first.
+    MisplacedMetadata,
+    /// The plural rule has no reading.
+    PluralParsing,
+    /// The header's charset is not UTF-8.
+    UnknownEncoding,
+    /// The plural rule has over 512 bytes, white space at its ends left out.
+    RuleTooLong,
+    /// The file could not be read. The library does not read files: it is [`ParseOptions::parse`](crate::ParseOptions::parse) that met it.
+    Io(io::Error),
+    /// The load would cost more than the limit, see [`ParseOptions::max_cost`](crate::ParseOptions::max_cost). The file was not looked at.
+    TooCostly {
+        /// What the load costs, see [`cost`](crate::cost).
+        cost: u64,
+        /// The limit that was set.
+        limit: u64,
+    },
+    /// A number that this crate does not know: it was linked to a library of another version.
+    Unknown(u32),
+}
+
+impl Error {
+    /// The number of the library's refusal, as the C interface has it. Errors of this crate alone have none.
+    #[must_use]
+    pub fn number(&self) -> Option<u32> {
+        match self {
+            Error::Eof => Some(1),
+            Error::BadMagic => Some(2),
+            Error::DecodingError => Some(3),
+            Error::MalformedMetadata => Some(4),
+            Error::MisplacedMetadata => Some(5),
+            Error::PluralParsing => Some(6),
+            Error::UnknownEncoding => Some(7),
+            Error::RuleTooLong => Some(8),
+            Error::Unknown(number) => Some(*number),
+            Error::Io(_) | Error::TooCostly { .. } => None,
+        }
+    }
+
+    /// The refusal that a load's number tells, 0 being none.
+    pub(crate) fn of(number: u32) -> Result<(), Error> {
+        Err(match number {
+            0 => return Ok(()),
+            1 => Error::Eof,
+            2 => Error::BadMagic,
+            3 => Error::DecodingError,
+            4 => Error::MalformedMetadata,
+            5 => Error::MisplacedMetadata,
+            6 => Error::PluralParsing,
+            7 => Error::UnknownEncoding,
+            8 => Error::RuleTooLong,
+            _ => Error::Unknown(number),
+        })
+    }
+}
+
+impl fmt::Display for Error {
+    fn fmt(&self, f: &mut fmt::Formatter<'_>) -> fmt::Result {
+        f.write_str(match self {
+            Error::Eof => "unexpected end of file",
+            Error::BadMagic => "bad magic number",
+            Error::DecodingError => "invalid byte sequence in a string",
+            Error::MalformedMetadata => "metadata syntax error",
+            Error::MisplacedMetadata => "misplaced metadata",
+            Error::PluralParsing => "invalid plural expression",
+            Error::UnknownEncoding => "unknown encoding specified",
+            Error::RuleTooLong => "plural expression over 512 bytes",
+            Error::Io(error) => return error.fmt(f),
+            Error::TooCostly { cost, limit } => {
+                return write!(f, "the load costs {cost}, and {limit} is the limit")
+            }
+            Error::Unknown(number) => {
+                return write!(f, "refusal {number}, which this version does not know")
+            }
+        })
+    }
+}
+
+impl error::Error for Error {
+    fn source(&self) -> Option<&(dyn error::Error + 'static)> {
+        match self {
+            Error::Io(error) => Some(error),
+            _ => None,
+        }
+    }
+}
+
+impl From<io::Error> for Error {
+    fn from(error: io::Error) -> Self {
+        Error::Io(error)
+    }
+}
+
+/// How a lookup went.
+#[derive(Clone, Copy, Debug, PartialEq, Eq, Hash)]
+#[non_exhaustive]
+pub enum Status {
+    /// The text is the catalog's, or the catalog has none and it is the caller's.
+    Answered,
+    /// The plural rule takes a remainder by zero at this count; the text is the caller's.
+    ZeroModulus,
+    /// The record does not belong to the file. It cannot come from a [`Catalog`](crate::Catalog), which keeps both.
+    BadRecord,
+    /// A number that this crate does not know: it was linked to a library of another version.
+    Unknown(u32),
+}
+
+impl Status {
+    /// The number, as the C interface has it.
+    #[must_use]
+    pub fn number(self) -> u32 {
+        match self {
+            Status::Answered => 0,
+            Status::ZeroModulus => 10,
+            Status::BadRecord => 11,
+            Status::Unknown(number) => number,
+        }
+    }
+
+    pub(crate) fn of(number: u32) -> Self {
+        match number {
+            0 => Status::Answered,
+            10 => Status::ZeroModulus,
+            11 => Status::BadRecord,
+            _ => Status::Unknown(number),
+        }
+    }
+}

@@ -1,0 +1,121 @@
+//! The options of a load.
+
+use crate::{cost, ffi, Bytes, Catalog, Error};
+use std::io::Read;
+
+/// How plural rules are read, the header's and a forced one alike.
+#[derive(Clone, Copy, Debug, Default, PartialEq, Eq, Hash)]
+#[non_exhaustive]
+pub enum Reading {
+    /// As gettext 0.4.0 reads them, the default. It cuts a rule at `&&` before it looks for `?:`, so that rules like those of Russian,
+    /// Polish or Arabic catalogs yield other forms than their translators meant.
+    #[default]
+    Shipped,
+    /// By C's grammar, as the GNU gettext manual asks.
+    Standard,
+}
+
+/// Options of a load.
+///
+/// ```
+/// use gettext_rattle::{ParseOptions, Reading};
+/// use std::fs::File;
+///
+/// # fn main() -> Result<(), gettext_rattle::Error> {
+/// # let path = concat!(env!("CARGO_MANIFEST_DIR"), "/../../examples/de.mo");
+/// let catalog = ParseOptions::new()
+///     .force_plural("n > 1")
+///     .reading(Reading::Standard)
+///     .max_cost(16 << 20)
+///     .parse(File::open(path)?)?;
+/// assert_eq!(catalog.ngettext("%d page", "%d pages", 0), "%d Seite");
+/// # Ok(())
+/// # }
+/// ```
+#[derive(Clone, Copy, Debug, Default)]
+#[must_use]
+pub struct ParseOptions<'r> {
+    rule: Option<&'r str>,
+    reading: Reading,
+    utf8: bool,
+    max_cost: Option<u64>,
+}
+
+impl<'r> ParseOptions<'r> {
+    /// No rule is forced, rules are read as gettext 0.4.0 reads them, the charset label must be UTF-8's, and there is no limit.
+    pub fn new() -> Self {
+        Self::default()
+    }
+
+    /// Takes this plural rule, such as `n != 1`, instead of the header's, which is then not read.
+    pub fn force_plural(mut self, rule: &'r str) -> Self {
+        self.rule = Some(rule);
+        self
+    }
+
+    /// Passes over the header's charset label. The texts must be UTF-8 all the same.
+    pub fn force_utf8(mut self) -> Self {
+        self.utf8 = true;
+        self
+    }
+
+    /// Chooses how plural rules are read.
+    pub fn reading(mut self, reading: Reading) -> Self {
+        self.reading = reading;
+        self
+    }
+
+    /// Refuses a file whose load would look at more bytes than this, see [`cost`], with [`Error::TooCostly`].
+    ///
+    /// The entries of an MO file may overlap, and each is tested by itself, so a file of 1 MiB can ask for gigabytes to be looked at. A
+    /// file whose entries do not overlap costs less than it has bytes.
+    pub fn max_cost(mut self, limit: u64) -> Self {
+        self.max_cost = Some(limit);
+        self
+    }
+
+    /// Reads the file to its end and loads the catalog, which owns the bytes.
+    ///
+    /// # Errors
+    ///
+    /// [`Error::Io`] if the file cannot be read, [`Error::TooCostly`] if a limit is set and the load would cost more, else the refusal
+    /// of the load.
+    pub fn parse<R: Read>(self, mut reader: R) -> Result<Catalog, Error> {
+        let mut file = Vec::new();
+        reader.read_to_end(&mut file)?;
+        self.parse_bytes(file)
+    }
+
+    /// Loads the catalog that lies in `file`, which is lent.
+    ///
+    /// # Errors
+    ///
+    /// As [`ParseOptions::parse`], without [`Error::Io`].
+    pub fn parse_slice(self, file: &[u8]) -> Result<Catalog<&[u8]>, Error> {
+        self.parse_bytes(file)
+    }
+
+    /// Loads the catalog that lies in `file`, which it keeps: lent, or as its own.
+    ///
+    /// # Errors
+    ///
+    /// As [`ParseOptions::parse`], without [`Error::Io`].
+    pub fn parse_bytes<B: Bytes>(self, file: B) -> Result<Catalog<B>, Error> {
+        if let Some(limit) = self.max_cost {
+            let cost = cost(file.bytes());
+            if cost > limit {
+                return Err(Error::TooCostly { cost, limit });
+            }
+        }
+        let mut record = ffi::blank();
+        let number = ffi::load(
+            file.bytes(),
+            self.rule.map(str::as_bytes),
+            self.reading == Reading::Standard,
+            self.utf8,
+            &mut record,
+        );
+        Error::of(number)?;
+        Ok(Catalog::of(file, record))
+    }
+}
