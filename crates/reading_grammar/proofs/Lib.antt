@@ -4,3 +4,4 @@ pub mod Sound
 pub mod Complete
 pub mod Steps
 pub mod Size
+pub mod Spelled

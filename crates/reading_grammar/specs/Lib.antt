@@ -1,3 +1,4 @@
 pub mod Grammar
 pub mod Tokens
+pub mod Spells
 pub mod Reading
