@@ -5,17 +5,22 @@
 use Prim.{tt}
 use Prim.Native.Nat.{ℕ, _+_, _^_, _<_, _≤_}
 use mathlib.Core.Path.{_≡_, refl, sym, ap, _∙_}
-use mathlib.Core.Bool.{true}
+use mathlib.Core.Bool.{Bool, true, false}
+use mathlib.Core.Logic.{_↔_}
 use mathlib.Core.List.{List, []}
 use native.Mathlib.Omega.{arith}
 use lib.ListN.{length, getD, take, drop}
 use contract.Lifetimes.{Lfts}
 use borrow.Fn.Kinds.{PK, RK, Dens, In}
+use Rattle.text_trim.specs.Trim.{trim, six}
+use Rattle.text_utf8.specs.Utf8.{utf8}
+use Rattle.text_utf8.specs.Scalar.{Text}
+use Rattle.text_utf8.proofs.Scalars.{utf8-is-text}
 use Rattle.refusal.specs.Numbers.{numberOf, outcomeNumber}
 use Rattle.refusal.specs.declared.Error.{Error}
 use Rattle.refusal.specs.declared.Error.the-variants as error
 use Rattle.rules.specs.Tree.{Tree, defaultTree}
-use Rattle.rules.specs.Value.{evalTree}
+use Rattle.rules.specs.Value.{evalTree, truth}
 use Rattle.rules.specs.Range.{rateTree}
 use Rattle.rules.specs.Pool.{Pool}
 use Rattle.rules.specs.Store.{store, blank}
@@ -30,20 +35,28 @@ use Rattle.rules.specs.declared.Fit.{Fit}
 use Rattle.rules.specs.declared.Fit.the-variants as fit
 use Rattle.rules.proofs.Forms.{rated-forms}
 use Rattle.rules.proofs.Fits.{Ranged, fits-ranged}
+use Rattle.reading_rule.specs.Plurals.{rule, parsed}
+use Rattle.reading_rule.specs.declared.Reading.the-variants.{Standard}
+use Rattle.reading_rule.proofs.Meaning.{IsRule, standard-exactly}
 use Rattle.container_layout.specs.Mo.{segments}
+use Rattle.container_layout.specs.declared.Tables.{Tables}
 use Rattle.lookup_scan.proofs.Last.{Last, last-hit}
 use Rattle.lookup.specs.declared.Reason.{Reason}
 use Rattle.lookup.specs.declared.Reason.the-variants as reason
 use Rattle.lookup.proofs.Rated.{Names, rated-lookup}
 use Rattle.container.specs.Catalog.{Answer, accepted, refused, noTables, load, treeIn}
+use Rattle.container.specs.Catalog as answer
+use Rattle.container.specs.Accepts.{Accepts, Fails}
+use Rattle.container.specs.Promise.{outcomeOf}
 use Rattle.container.specs.declared.Options.{Options}
+use Rattle.container.proofs.Exactly.{accepted-exactly, refused-exactly}
 use Rattle.host.specs.Host.{tablesIn, nodesIn, rootIn, ownFor, answerOf, ratingOf, fitsOf}
 use Rattle.host.specs.declared.Loaded.{Loaded}
 use Rattle.host.specs.declared.Answer as host-answer
 use Rattle.host.specs.declared.Rating.{Rating}
 use Rattle.host.specs.declared.Fits.{Fits}
 use Rattle.gettext_c.specs.Record.{Loads, counted}
-use Rattle.gettext_c.proofs.Fresh.{fresh-resolves, fresh-length}
+use Rattle.gettext_c.proofs.Fresh.{was-accepted, fresh-resolves, fresh-length}
 use Rattle.gettext_c.proofs.gettext_c_empty.Reads as empty
 use Rattle.gettext_c.proofs.gettext_c_empty.Kinds as empty-kinds
 use Rattle.gettext_c.proofs.gettext_c_load.Reads as load-reads
@@ -64,6 +77,8 @@ use Rattle.gettext_c.proofs.gettext_c_resolve.Reads as resolve
 use Rattle.gettext_c.proofs.gettext_c_resolve.Kinds as resolve-kinds
 use Rattle.gettext_c.proofs.gettext_c_is_utf8.Reads as is-utf8
 use Rattle.gettext_c.proofs.gettext_c_is_utf8.Kinds as is-utf8-kinds
+use Rattle.gettext_c.proofs.gettext_c_cost.Reads as cost
+use Rattle.gettext_c.proofs.gettext_c_cost.Kinds as cost-kinds
 
 -- 1. No input stops the host. No function asks anything of its caller: `Pre` is what it requires, as the check reads it from the source.
 -- That it ends, and touches nothing outside what is lent to it, is what the check proves of every function.
@@ -73,8 +88,8 @@ AsksNothing n ps Pre = (κs : Lfts n) (a : Dens κs ps) → Pre κs a
 pub nothing-asked : AsksNothing 3 empty-kinds.ps empty.Pre × AsksNothing 4 load-kinds.ps load-reads.Pre × AsksNothing 1 gettext-kinds.ps gettext.Pre
     × AsksNothing 1 pgettext-kinds.ps pgettext.Pre × AsksNothing 1 ngettext-kinds.ps ngettext.Pre × AsksNothing 1 npgettext-kinds.ps npgettext.Pre
     × AsksNothing 1 rating-kinds.ps rating.Pre × AsksNothing 1 fits-kinds.ps fits.Pre × AsksNothing 1 resolve-kinds.ps resolve.Pre
-    × AsksNothing 1 is-utf8-kinds.ps is-utf8.Pre
-nothing-asked = (λ κs a. tt, λ κs a. tt, λ κs a. tt, λ κs a. tt, λ κs a. tt, λ κs a. tt, λ κs a. tt, λ κs a. tt, λ κs a. tt, λ κs a. tt)
+    × AsksNothing 1 is-utf8-kinds.ps is-utf8.Pre × AsksNothing 1 cost-kinds.ps cost.Pre
+nothing-asked = (λ κs a. tt, λ κs a. tt, λ κs a. tt, λ κs a. tt, λ κs a. tt, λ κs a. tt, λ κs a. tt, λ κs a. tt, λ κs a. tt, λ κs a. tt, λ κs a. tt)
 
 -- a refused load gives the empty catalog
 refused-empty : (a : Answer) {Q : Pool} {r : Loaded} → Loads a Q r → (r .number ≡ 0 → ⊥) → (tablesIn (r .head) ≡ noTables) × (Q ≡ store defaultTree 0 blank)
@@ -96,6 +111,53 @@ refused-lookup own reason.ZeroModulus n = (refl, zero-modulus)
 refused-lookup own reason.NoEntry n = absurd (n refl)
 refused-lookup own (reason.TooFewSegments i) n = absurd (n refl)
 refused-lookup own (reason.Answered i form start len) n = absurd (n refl)
+
+-- 2. The container, UTF-8 and the C reading of rules, by the public documents. A text is told to be UTF-8 exactly if it is a run of encodings of
+-- character numbers (RFC 3629, section 3).
+one-true : (b : Bool) → truth b ≡ 1 → b ≡ true
+one-true true e = refl
+one-true false e = absurd (omega arith)
+
+pub demand-2-utf8 : (s : List ℕ) → (truth (utf8 s) ≡ 1) ↔ Text s
+demand-2-utf8 s = (λ e. utf8-is-text s .0 (one-true (utf8 s) e), λ t. ap truth (utf8-is-text s .1 t))
+
+-- a load has number 0 exactly if the file is a catalog (container/specs/Accepts.antt), with its tables and the tree of the rule that counts
+pub record IsCatalog (o : Options) (f s : List ℕ) (Q : Pool) (r : Loaded) : Type 0 where
+  pub tree : Tree
+  pub facts : Accepts o f s (tablesIn (r .head)) tree
+  pub stored : Q ≡ store tree 0 blank
+
+-- and a number e exactly if e is that of the first test that fails, at the lowest index
+pub record IsRefused (o : Options) (f s : List ℕ) (r : Loaded) : Type 0 where
+  pub error : Error
+  pub number : r .number ≡ numberOf error
+  pub fails : Fails o f s error
+
+module _ (o : Options) (f s : List ℕ) {Q : Pool} {r : Loaded} (loads : Loads (load o f s) Q r) where
+  pub demand-2-accepts : r .number ≡ 0 → IsCatalog o f s Q r
+  demand-2-accepts e = record { tree = treeIn (load o f s); facts = accepted-exactly o f s _ _ .0 (was-accepted o f s loads e); stored = loads .rule-is }
+
+  pub demand-2-accepted : (t : Tables) (u : Tree) → Accepts o f s t u → (r .number ≡ 0) × (tablesIn (r .head) ≡ t) × (Q ≡ store u 0 blank)
+  demand-2-accepted t u w =
+      let e = accepted-exactly o f s t u .1 w in (
+        loads .number-is ∙ ap (λ (a : Answer). outcomeNumber (outcomeOf a)) e,
+        loads .tables-are ∙ ap (λ (a : Answer). answer.tablesIn a) e,
+        loads .rule-is ∙ ap (λ (a : Answer). store (treeIn a) 0 blank) e,
+      )
+
+  pub demand-2-fails : (e : Error) → Fails o f s e → r .number ≡ numberOf e
+  demand-2-fails e w = loads .number-is ∙ ap (λ (a : Answer). outcomeNumber (outcomeOf a)) (refused-exactly o f s e .1 w)
+
+  pub demand-2-refused : (r .number ≡ 0 → ⊥) → IsRefused o f s r
+  demand-2-refused n = by-answer (load o f s) refl
+    where
+      by-answer : (a : Answer) → load o f s ≡ a → IsRefused o f s r
+      by-answer (accepted t u) e = absurd (n (loads .number-is ∙ ap (λ (a : Answer). outcomeNumber (outcomeOf a)) e))
+      by-answer (refused x) e = record { error = x; number = loads .number-is ∙ ap (λ (a : Answer). outcomeNumber (outcomeOf a)) e; fails = refused-exactly o f s x .0 e }
+
+-- a rule text is read as a tree, in the Standard reading, exactly if, trimmed, it means that tree in C's grammar (GNU gettext manual, 11.2.6)
+pub demand-2-rule : (f : List ℕ) (t : Tree) → (parsed Standard f ≡ rule t) ↔ IsRule (trim six f) t
+demand-2-rule f t = standard-exactly f t
 
 -- 3. The rule that was loaded, at a count: it takes no remainder by zero, and yields a form from lo to hi, so below k; that is what the
 -- function `gettext_c_resolve` tells.

@@ -3,3 +3,4 @@ pub mod Nodes
 pub mod Joined
 pub mod Cases
 pub mod Unique
+pub mod Meaning

@@ -1,0 +1,56 @@
+-- A rule in the Standard reading, by C's grammar alone: the trimmed text has at most 512 bytes, all ASCII, and means that tree. Assumes nothing.
+use Prim.Native.Nat.{ℕ, _≤_}
+use mathlib.Core.Path.{_≡_, refl, sym, ap, _∙_}
+use mathlib.Core.Bool.{Bool, true, false}
+use mathlib.Core.Logic.{_↔_}
+use mathlib.Core.List.{List}
+use native.Mathlib.Omega.{arith}
+use lib.ListN.{length}
+use lib.Dec.{ltb}
+use borrow.Author.Tests.{ltb-false, le-ltb}
+use Rattle.text.specs.Bytes.{all}
+use Rattle.text.proofs.Tests.{taken, left, by-test}
+use Rattle.text_trim.specs.Trim.{trim, six}
+use Rattle.refusal.specs.declared.Error.{Error}
+use Rattle.refusal.specs.declared.Error.the-variants.{PluralParsing, RuleTooLong}
+use Rattle.rules.specs.Tree as tree
+use Rattle.rules.specs.Tree.{Tree}
+use Rattle.reading_grammar.specs.Spells.{Means}
+use Rattle.reading_grammar.specs.Reading.{standard}
+use Rattle.reading_grammar.proofs.Spelled.{agrees-text}
+use Rattle.reading_rule.specs.Plurals.{Parse, rule, norule, made, isAscii, tested, parsed}
+use Rattle.reading_rule.specs.declared.Reading.the-variants.{Standard}
+
+pub record IsRule (s : List ℕ) (t : Tree) : Type 0 where
+  pub short : length s ≤ 512
+  pub ascii : all isAscii s ≡ true
+  pub means : Means s t
+
+never : {e : Error} {t : Tree} → norule e ≡ rule t → ⊥
+never e = let z : _≡_ {A = ℕ} 0 1 = cc in omega arith
+
+made-tree : (x : tree.Reading) {t : Tree} → made x ≡ rule t → x ≡ tree.tree t
+unfolding made
+made-tree (tree.tree u) {t} e = let z : u ≡ t = cc in ap tree.tree z
+made-tree tree.none e = absurd (never e)
+
+module _ (s : List ℕ) (t : Tree) where
+  to-rule : tested Standard s ≡ rule t → IsRule s t
+  unfolding tested
+  to-rule e =
+      by-test (IsRule s t) (ltb 512 (length s)) (λ long. absurd (never (sym (taken (norule RuleTooLong) (elim (all isAscii s) [ true ↦ made (standard s) | false ↦ norule PluralParsing ]) long) ∙ e)))
+      (λ short. let r = sym (left (norule RuleTooLong) (elim (all isAscii s) [ true ↦ made (standard s) | false ↦ norule PluralParsing ]) short) ∙ e in
+      by-test (IsRule s t) (all isAscii s)
+      (λ a. record { short = ltb-false 512 (length s) short; ascii = a; means = agrees-text s t .0 (made-tree (standard s) (sym (taken (made (standard s)) (norule PluralParsing) a) ∙ r)) })
+      (λ a. absurd (never (sym (left (made (standard s)) (norule PluralParsing) a) ∙ r))))
+
+  from-rule : IsRule s t → tested Standard s ≡ rule t
+  unfolding tested made
+  from-rule w =
+      left (norule RuleTooLong) (elim (all isAscii s) [ true ↦ made (standard s) | false ↦ norule PluralParsing ]) (le-ltb 512 (length s) (w .short))
+      ∙ taken (made (standard s)) (norule PluralParsing) (w .ascii)
+      ∙ ap made (agrees-text s t .1 (w .means))
+
+pub standard-exactly : (s : List ℕ) (t : Tree) → (parsed Standard s ≡ rule t) ↔ IsRule (trim six s) t
+unfolding parsed
+standard-exactly s t = (to-rule (trim six s) t, from-rule (trim six s) t)
