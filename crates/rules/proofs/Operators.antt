@@ -7,15 +7,10 @@ use Prim.Native.Nat.{ℕ, zero, suc, _<_}
 use native.Mathlib.Omega.{arith}
 use lib.ListN.{length}
 use Rattle.rules.specs.Tree.{Op, cmp, and, or, rem, eq, ne, ge, le, gt, lt}
-use Rattle.rules.specs.Operator.{operators, opAt, opOf, opCode}
+use Rattle.rules.specs.Operator.{operators, opAt, opOf, Named, opCode}
 
 pub never : {A : Type 0} → false ≡ true → A
 never e = let z : _≡_ {A = ℕ} 0 1 = cc in absurd (omega arith)
-
--- the operator of a number
-pub record Named (i : ℕ) : Type 0 where
-  pub op : Op
-  pub is : opOf i ≡ some op
 
 record Row (ops : List Op) (i : ℕ) : Type 0 where
   op : Op

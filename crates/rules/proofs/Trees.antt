@@ -12,10 +12,10 @@ use lib.ListN.{getD, length}
 use lib.Dec.{ltb, leb}
 use borrow.Author.Tests.{lt-ltb, le-ltb, ltb-true, ltb-false, leb-true, eq-eqb, ne-eqb}
 use Rattle.rules.specs.Tree.{Tree, var, int, nay, bin, cond, rem, Op}
-use Rattle.rules.specs.Operator.{operators, opOf}
+use Rattle.rules.specs.Operator.{operators, opOf, Named}
 use Rattle.rules.specs.Pool.{Pool, pool, code, field, value, rows, known, joined, leaf, one, two, node, build, below, treeAt, treeOf, fields, operandsTo, operands, allBelow, used, member, shaped, isTree}
 use Rattle.rules.specs.Sound.{Sound}
-use Rattle.rules.proofs.Operators.{never, Named, named}
+use Rattle.rules.proofs.Operators.{never, named}
 
 pub both-left : (a b : Bool) → (a && b) ≡ true → a ≡ true
 both-left true b e = refl

@@ -1,6 +1,7 @@
 -- The binary operators: one table, a row for each, whose place is the operator's number. A number that the table does not list is no
 -- operator's. There is room for 16.
 use Prim.Native.Nat.{ℕ, zero, suc}
+use mathlib.Core.Path.{_≡_}
 use mathlib.Core.List.{List, [], _∷_}
 use mathlib.Core.Option.{Option, none, some}
 use Rattle.rules.specs.Tree.{Op, cmp, and, or, rem, Cmp, eq, ne, ge, le, gt, lt}
@@ -17,6 +18,10 @@ opAt (op ∷ ops) (suc i) = opAt ops i
 unfoldable pub opOf : ℕ → Option Op
 unfolding opAt
 opOf i = opAt operators i
+
+pub record Named (i : ℕ) : Type 0 where
+  pub op : Op
+  pub is : opOf i ≡ some op
 
 -- the number of an operator
 unfoldable pub opCode : Op → ℕ
