@@ -73,3 +73,16 @@ code-is (suc (suc (suc (suc (suc (suc zero)))))) op e = sym (ap numberIn e)
 code-is (suc (suc (suc (suc (suc (suc (suc zero))))))) op e = sym (ap numberIn e)
 code-is (suc (suc (suc (suc (suc (suc (suc (suc zero)))))))) op e = sym (ap numberIn e)
 code-is (suc (suc (suc (suc (suc (suc (suc (suc (suc i))))))))) op e = none-some e
+
+-- from the number of % on there is none but it
+pub is-rem : (i : ℕ) (op : Op) → opOf i ≡ some op → 7 < i → op ≡ rem
+unfolding opCode
+is-rem i (cmp eq) e h = let d = code-is i (cmp eq) e in absurd (omega arith)
+is-rem i (cmp ne) e h = let d = code-is i (cmp ne) e in absurd (omega arith)
+is-rem i (cmp ge) e h = let d = code-is i (cmp ge) e in absurd (omega arith)
+is-rem i (cmp le) e h = let d = code-is i (cmp le) e in absurd (omega arith)
+is-rem i (cmp gt) e h = let d = code-is i (cmp gt) e in absurd (omega arith)
+is-rem i (cmp lt) e h = let d = code-is i (cmp lt) e in absurd (omega arith)
+is-rem i and e h = let d = code-is i and e in absurd (omega arith)
+is-rem i or e h = let d = code-is i or e in absurd (omega arith)
+is-rem i rem e h = refl

@@ -48,18 +48,6 @@ pub is-or : (i : ℕ) (op : Op) → opOf i ≡ some op → i ≡ 7 → op ≡ or
 unfolding opOf opAt
 is-or i op e h = let d : opOf 7 ≡ some op = rw h at e in cc
 
-pub is-rem : (i : ℕ) (op : Op) → opOf i ≡ some op → 7 < i → op ≡ rem
-unfolding opCode
-is-rem i (cmp eq) e h = let d = code-is i (cmp eq) e in absurd (omega arith)
-is-rem i (cmp ne) e h = let d = code-is i (cmp ne) e in absurd (omega arith)
-is-rem i (cmp ge) e h = let d = code-is i (cmp ge) e in absurd (omega arith)
-is-rem i (cmp le) e h = let d = code-is i (cmp le) e in absurd (omega arith)
-is-rem i (cmp gt) e h = let d = code-is i (cmp gt) e in absurd (omega arith)
-is-rem i (cmp lt) e h = let d = code-is i (cmp lt) e in absurd (omega arith)
-is-rem i and e h = let d = code-is i and e in absurd (omega arith)
-is-rem i or e h = let d = code-is i or e in absurd (omega arith)
-is-rem i rem e h = refl
-
 -- only && and || are settled by their left operand
 pub settled-rest : (i x : ℕ) → (i ≡ 6 → ⊥) → (i ≡ 7 → ⊥) → settledBy (opOf i) x ≡ false
 unfolding settled opCode

@@ -4,7 +4,8 @@ use borrow.Author.Tests.{eq-eqb, ne-eqb}
 use native.Mathlib.Omega.{arith}
 use Rattle.rules.specs.declared.Value.the-variants.{Is}
 use Rattle.rules.specs.Value.{binary, truthV}
-use Rattle.rules_operators.proofs.Operators.{low-cmp, is-and, is-or, is-rem}
+use Rattle.rules.proofs.Operators.{is-rem}
+use Rattle.rules_operators.proofs.Operators.{low-cmp, is-and, is-or}
 use Rattle.rules_operators.proofs.Given.{applied-number, applied-zero}
 use borrow.Author.Needs.{needs}
 use Rattle.rules_operators.proofs.apply.Statement.{statement}
