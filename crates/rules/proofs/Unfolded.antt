@@ -112,12 +112,13 @@ keep-plain (three x y z) k P l w b =
     q (omega arith)
 
 reader-op : (c : ℕ) → c / 16 ≡ 5 → plain c ≡ true
-reader-op c e = rw (plain, e) (go (leb c 1) (eqb c 48))
+reader-op c e = rw (plain, e) (go (leb c 1) (eqb c 48) (eqb c 112))
   where
-    go : (a b : Bool) → (a || (b || true)) ≡ true
-    go true b = refl
-    go false true = refl
-    go false false = refl
+    go : (a b d : Bool) → (a || (b || (d || true))) ≡ true
+    go true b d = refl
+    go false true d = refl
+    go false false true = refl
+    go false false false = refl
 
 written : (t : Tree) → Written (spread t)
 unfolding spread

@@ -14,7 +14,7 @@ pub record Sound (P : Pool) (p : ℕ) : Type 0 where
 
 -- a code that a reader writes
 abbrev pub plain : ℕ → Bool
-plain c = leb c 1 || (eqb c 48 || (eqb (c / 16) 5 || eqb c 112))
+plain c = leb c 1 || (eqb c 48 || (eqb c 112 || eqb (c / 16) 5))
 
 -- a sound place up to which a reader wrote
 pub record Plain (P : Pool) (p : ℕ) : Type 0 where
