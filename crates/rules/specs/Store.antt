@@ -3,12 +3,16 @@
 use Prim.Native.Nat.{ℕ, zero, suc, _+_, _-_, _*_}
 use mathlib.Core.List.{List, [], _∷_}
 use lib.ListN.{set}
-use Rattle.rules.specs.Tree.{Tree, var, int, nay, bin, cond}
+use Rattle.rules.specs.Tree.{Tree, var, int, nay, bin, cond, Op}
 use Rattle.rules.specs.Operator.{opCode}
 use Rattle.rules.specs.Pool.{Pool, pool}
 
 abbrev pub push : Pool → ℕ → ℕ → ℕ → ℕ → ℕ → Pool
 push P k code x y v = pool (set (P .codes) k code) (set (set (P .places) (2 * k) x) (2 * k + 1) y) (set (P .values) k v)
+
+-- the code of an operator's node
+abbrev pub nodeCode : Op → ℕ
+nodeCode op = 80 + opCode op
 
 unfoldable pub size : Tree → ℕ
 size var = 1
@@ -22,7 +26,7 @@ unfolding size opCode
 store var k P = push P k 0 0 0 0
 store (int v) k P = push P k 1 0 0 v
 store (nay t) k P = push (store t k P) (k + size t) 48 0 0 0
-store (bin op s t) k P = push (store t (k + size s) (store s k P)) (k + size s + size t) (80 + opCode op) (k + size s - 1) 0 0
+store (bin op s t) k P = push (store t (k + size s) (store s k P)) (k + size s + size t) (nodeCode op) (k + size s - 1) 0 0
 store (cond s t u) k P =
     push
     (store u (k + size s + size t) (store t (k + size s) (store s k P)))
