@@ -19,6 +19,14 @@ use Rattle.rules.proofs.Packs.{Fits, is-two}
 use Rattle.rules.proofs.Stored.{nodes-pos, Long, less, push-below, pushed, keep-long, long-blank, kept-tree}
 use Rattle.rules.proofs.StoredTree.{kept-is-tree}
 
+pub size-pos : (t : Tree) → 0 < size t
+unfolding size
+size-pos var = omega arith
+size-pos (int v) = omega arith
+size-pos (nay t) = omega arith
+size-pos (bin op s t) = omega arith
+size-pos (cond s t u) = omega arith
+
 unfoldable spread : Tree → Packed
 spread var = leaf 0 0 0
 spread (int v) = leaf 1 0 v
