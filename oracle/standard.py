@@ -30,7 +30,7 @@ FORMS_AT = [0, 1, 2, 3, 4, 5, 7, 10, 11, 12, 21, 22, 100, 111, 2**32, TOP]
 # The port.
 
 
-PLACES = 1536
+PLACES = 1024
 
 
 class Head(ctypes.Structure):

@@ -68,11 +68,11 @@ typedef struct gr_head {
     size_t root;
 } gr_head;
 
-/* What lookups need beside the file: 7,736 bytes. The rule is nodes: codes, three places of operands each, and the values of integers. */
+/* What lookups need beside the file: 6,712 bytes. The rule is nodes: codes, two fields each, and values. */
 typedef struct gr_record {
     gr_head head;
     uint64_t values[512];
-    uint16_t places[1536];
+    uint16_t places[1024];
     uint8_t codes[512];
 } gr_record;
 
@@ -117,10 +117,10 @@ typedef struct gr_form {
 #define GR_LAYOUT(name, holds) typedef char gr_layout_of_##name[(holds) ? 1 : -1]
 GR_LAYOUT(size_t, sizeof(size_t) == 8);
 GR_LAYOUT(gr_head, sizeof(gr_head) == 56);
-GR_LAYOUT(gr_record, sizeof(gr_record) == 7736);
+GR_LAYOUT(gr_record, sizeof(gr_record) == 6712);
 GR_LAYOUT(gr_record_values, offsetof(gr_record, values) == 56);
 GR_LAYOUT(gr_record_places, offsetof(gr_record, places) == 56 + 4096);
-GR_LAYOUT(gr_record_codes, offsetof(gr_record, codes) == 56 + 4096 + 3072);
+GR_LAYOUT(gr_record_codes, offsetof(gr_record, codes) == 56 + 4096 + 2048);
 GR_LAYOUT(gr_loaded, sizeof(gr_loaded) == 64);
 GR_LAYOUT(gr_answer, sizeof(gr_answer) == 40);
 GR_LAYOUT(gr_range, sizeof(gr_range) == 24);
@@ -131,20 +131,20 @@ GR_LAYOUT(gr_form, sizeof(gr_form) == 16);
  * The exported functions, as the library has them: pointers and lengths, none of them null, also where the length is 0. A host rather calls
  * the gr_ functions below. A flag is set by any number but 0.
  */
-gr_loaded gettext_c_empty(uint8_t codes[512], uint16_t places[1536], uint64_t values[512]);
+gr_loaded gettext_c_empty(uint8_t codes[512], uint16_t places[1024], uint64_t values[512]);
 gr_loaded gettext_c_load(const uint8_t *file, size_t file_len, const uint8_t *rule, size_t rule_len, uint32_t forced, uint32_t standard,
-                         uint32_t utf8, uint8_t codes[512], uint16_t places[1536], uint64_t values[512]);
+                         uint32_t utf8, uint8_t codes[512], uint16_t places[1024], uint64_t values[512]);
 gr_answer gettext_c_gettext(const uint8_t *file, size_t file_len, const gr_head *head, const uint8_t *id, size_t id_len);
 gr_answer gettext_c_pgettext(const uint8_t *file, size_t file_len, const gr_head *head, const uint8_t *context, size_t context_len,
                              const uint8_t *id, size_t id_len);
 gr_answer gettext_c_ngettext(const uint8_t *file, size_t file_len, const gr_head *head, const uint8_t codes[512],
-                             const uint16_t places[1536], const uint64_t values[512], const uint8_t *id, size_t id_len, uint64_t n);
+                             const uint16_t places[1024], const uint64_t values[512], const uint8_t *id, size_t id_len, uint64_t n);
 gr_answer gettext_c_npgettext(const uint8_t *file, size_t file_len, const gr_head *head, const uint8_t codes[512],
-                              const uint16_t places[1536], const uint64_t values[512], const uint8_t *context, size_t context_len,
+                              const uint16_t places[1024], const uint64_t values[512], const uint8_t *context, size_t context_len,
                               const uint8_t *id, size_t id_len, uint64_t n);
-gr_range gettext_c_rating(const gr_head *head, const uint8_t codes[512], const uint16_t places[1536], const uint64_t values[512]);
-gr_fit gettext_c_fits(const gr_head *head, const uint8_t codes[512], const uint16_t places[1536], const uint64_t values[512], uint64_t k);
-gr_form gettext_c_resolve(const gr_head *head, const uint8_t codes[512], const uint16_t places[1536], const uint64_t values[512],
+gr_range gettext_c_rating(const gr_head *head, const uint8_t codes[512], const uint16_t places[1024], const uint64_t values[512]);
+gr_fit gettext_c_fits(const gr_head *head, const uint8_t codes[512], const uint16_t places[1024], const uint64_t values[512], uint64_t k);
+gr_form gettext_c_resolve(const gr_head *head, const uint8_t codes[512], const uint16_t places[1024], const uint64_t values[512],
                           uint64_t n);
 uint32_t gettext_c_is_utf8(const uint8_t *text, size_t text_len);
 uint64_t gettext_c_cost(const uint8_t *file, size_t file_len);

@@ -2,29 +2,24 @@
 // table" and "Numbers returned" in plain Rust, with sums without bound.
 use crate::compare::{hex, Oracle};
 use crate::make;
-use crate::rattle::{Answer, Ours, Record};
+use crate::rattle::{Answer, Node, Ours, Part, Record};
 use crate::rng::Rng;
 
-fn operands(r: &Record, p: usize) -> &[u16] {
-    let uses = match r.codes[p] {
-        0 | 1 => 0,
-        2 => 1,
-        3 => 3,
-        _ => 2,
-    };
-    &r.places[3 * p..3 * p + uses]
-}
-
 fn is_tree(r: &Record) -> bool {
-    if r.head.nodes > 512 || r.head.root >= r.head.nodes || r.codes[..r.head.nodes].iter().any(|&code| code > 12) {
+    if r.head.nodes > 512 || r.head.root >= r.head.nodes {
         return false;
     }
-    let mut taken: Vec<u16> = Vec::new();
+    let mut taken: Vec<usize> = Vec::new();
     for p in 0..r.head.nodes {
-        if operands(r, p).iter().any(|&q| q as usize >= p) {
-            return false;
+        let Some(node) = r.node(p) else { return false };
+        for part in node.parts() {
+            if let Part::At(q) = part {
+                if q >= p {
+                    return false;
+                }
+                taken.push(q);
+            }
         }
-        taken.extend(operands(r, p));
     }
     let all = taken.len();
     taken.sort_unstable();
@@ -32,22 +27,26 @@ fn is_tree(r: &Record) -> bool {
     taken.len() == all
 }
 
+fn remainder(x: (u64, u64), y: (u64, u64)) -> Option<(u64, u64)> {
+    if y.0 == 0 { None } else { Some((0, x.1.min(y.1 - 1))) }
+}
+
 // The lowest and the highest value; none where the rule is not rated.
 fn range(r: &Record, p: usize) -> Option<(u64, u64)> {
-    let mut under = Vec::new();
-    for &q in operands(r, p) {
-        under.push(range(r, q as usize));
+    let node = r.node(p)?;
+    let under = node.parts().into_iter().map(|part| match part {
+        Part::N => Some((0, u64::MAX)),
+        Part::Integer(x) => Some((x, x)),
+        Part::Rest(m) => remainder((0, u64::MAX), (m, m)),
+        Part::At(q) => range(r, q),
+    });
+    let under: Vec<(u64, u64)> = under.collect::<Option<_>>()?;
+    match node {
+        Node::Leaf(_) => Some(under[0]),
+        Node::Ternary(..) => Some((under[1].0.min(under[2].0), under[1].1.max(under[2].1))),
+        Node::Op(8, ..) => remainder(under[0], under[1]),
+        Node::Op(..) | Node::Not(_) => Some((0, 1)),
     }
-    let under: Option<Vec<(u64, u64)>> = under.into_iter().collect();
-    let under = under?;
-    Some(match r.codes[p] {
-        0 => (0, u64::MAX),
-        1 => (r.values[p], r.values[p]),
-        3 => (under[1].0.min(under[2].0), under[1].1.max(under[2].1)),
-        12 if under[1].0 == 0 => return None,
-        12 => (0, under[0].1.min(under[1].1 - 1)),
-        _ => (0, 1),
-    })
 }
 
 // The string of cell i of a table, with the byte after it.
@@ -103,15 +102,25 @@ fn answer(file: &[u8], r: &Record, key: &[u8], n: Option<u64>) -> Answer {
     caller(0)
 }
 
-// A few nodes made anew: any codes and places, near trees for the most part.
+// Codes that a record may have.
+const CODES: [u8; 42] = [
+    0, 1, 16, 17, 18, 19, 20, 21, 22, 23, 24, 32, 33, 34, 35, 36, 37, 38, 39, 40, 48, 49, 64, 65, 66, 67, 68, 69, 70, 71, 72, 80, 81, 82, 83,
+    84, 85, 86, 87, 88, 96, 112,
+];
+
+// A few nodes made anew: any codes and fields, near trees for the most part. One code in a few is any of the 256.
 fn alter_rule(rng: &mut Rng, r: &mut Record) {
     if rng.one_in(3) {
         r.head.nodes = 1 + rng.below(9);
+        let any = if rng.one_in(3) { rng.below(r.head.nodes) } else { 512 };
         for p in 0..r.head.nodes {
-            r.codes[p] = if p < 2 || rng.one_in(3) { rng.below(2) as u8 } else { rng.below(13) as u8 };
+            r.codes[p] = if p == 0 || rng.one_in(3) { CODES[rng.below(20)] } else { *rng.pick(&CODES) };
+            if p == any {
+                r.codes[p] = rng.below(256) as u8;
+            }
             r.values[p] = *rng.pick(&[0, 1, 2, 3, 10, u64::MAX]);
-            for j in 0..3 {
-                r.places[3 * p + j] = if p == 0 { 0 } else { rng.below(p) as u16 };
+            for j in 0..2 {
+                r.places[2 * p + j] = if p == 0 { rng.below(3) as u16 } else { rng.below(p) as u16 };
             }
         }
         r.head.root = if rng.one_in(3) { rng.below(r.head.nodes) } else { r.head.nodes - 1 };
@@ -119,9 +128,9 @@ fn alter_rule(rng: &mut Rng, r: &mut Record) {
     for _ in 0..rng.below(3) {
         let p = rng.below(r.head.nodes.min(512) + 1).min(511);
         match rng.below(6) {
-            0 => r.codes[p] = *rng.pick(&[0, 1, 2, 3, 4, 12, 13, 255]),
-            1 => r.places[3 * p + rng.below(3)] = *rng.pick(&[0, 1, p as u16, (p + 1) as u16, 511, 512, 65535]),
-            2 => r.places[3 * p + rng.below(3)] = rng.below(p + 1) as u16,
+            0 => r.codes[p] = rng.below(256) as u8,
+            1 => r.places[2 * p + rng.below(2)] = *rng.pick(&[0, 1, p as u16, (p + 1) as u16, 511, 512, 65535]),
+            2 => r.places[2 * p + rng.below(2)] = rng.below(p + 1) as u16,
             3 => r.values[p] = rng.next(),
             4 => r.head.nodes = *rng.pick(&[0, 1, p, p + 1, 511, 512, 513, usize::MAX]),
             _ => r.head.root = *rng.pick(&[0, p, p + 1, 511, 512, usize::MAX]),

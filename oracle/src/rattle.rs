@@ -141,6 +141,33 @@ impl Ours<'_> {
     }
 }
 
+// An operand of a node: n, an integer or n % m in the node itself, or the tree at another place.
+#[derive(Clone, Copy)]
+pub enum Part {
+    N,
+    Integer(u64),
+    Rest(u64),
+    At(usize),
+}
+
+// A node by its code, an operator by its number.
+pub enum Node {
+    Leaf(Part),
+    Not(Part),
+    Op(usize, Part, Part),
+    Ternary(Part, Part, Part),
+}
+
+impl Node {
+    pub fn parts(&self) -> Vec<Part> {
+        match *self {
+            Node::Leaf(x) | Node::Not(x) => vec![x],
+            Node::Op(_, x, y) => vec![x, y],
+            Node::Ternary(x, y, z) => vec![x, y, z],
+        }
+    }
+}
+
 impl Record {
     pub fn same(&self, other: &Record) -> bool {
         self.head == other.head && self.same_rule(other)
@@ -154,67 +181,85 @@ impl Record {
             && self.values == other.values
     }
 
-    fn operand(&self, at: usize, j: usize) -> usize {
-        self.places[3 * at + j] as usize
+    // The node at a place; none where its code is not one of document 01's record.
+    pub fn node(&self, at: usize) -> Option<Node> {
+        let (code, value) = (self.codes[at], Part::Integer(self.values[at]));
+        let field = |j| self.places[2 * at + j];
+        let (small, before) = (Part::Integer(field(0) as u64), Part::At(at.wrapping_sub(1)));
+        let (x, y) = (Part::At(field(0) as usize), Part::At(field(1) as usize));
+        let op = (code % 16) as usize;
+        Some(match code {
+            0 => Node::Leaf(Part::N),
+            1 => Node::Leaf(value),
+            16..=24 => Node::Op(op, Part::N, value),
+            32..=40 => Node::Op(op, Part::Rest(field(0) as u64), value),
+            48 => Node::Not(before),
+            49 => Node::Ternary(before, value, small),
+            64..=72 => Node::Op(op, before, value),
+            80..=88 => Node::Op(op, x, before),
+            96 => Node::Ternary(x, value, before),
+            112 => Node::Ternary(x, y, before),
+            _ => return None,
+        })
     }
 
     // The tree as the crate's own Debug writes it.
     pub fn write_tree(&self, at: usize, out: &mut String) {
         const NAMES: [&str; 9] =
             ["Equal", "NotEqual", "GreaterOrEqual", "SmallerOrEqual", "Greater", "Smaller", "And", "Or", "Modulo"];
-        match self.codes[at] {
-            0 => out.push('N'),
-            1 => {
-                out.push_str("Integer(");
-                out.push_str(&self.values[at].to_string());
-                out.push(')');
-            }
-            2 => {
-                out.push_str("Not(");
-                self.write_tree(self.operand(at, 0), out);
-                out.push(')');
-            }
-            3 => {
-                out.push_str("Ternary(");
-                for j in 0..3 {
-                    if j > 0 {
-                        out.push_str(", ");
-                    }
-                    self.write_tree(self.operand(at, j), out);
-                }
-                out.push(')');
-            }
-            code => {
+        let (name, parts) = match self.node(at).expect("a known code") {
+            Node::Leaf(part) => return self.write_part(part, out),
+            Node::Not(part) => ("Not(", vec![part]),
+            Node::Op(op, x, y) => {
                 out.push_str("Op(");
-                out.push_str(NAMES[code as usize - 4]);
-                for j in 0..2 {
-                    out.push_str(", ");
-                    self.write_tree(self.operand(at, j), out);
-                }
-                out.push(')');
+                out.push_str(NAMES[op]);
+                (", ", vec![x, y])
             }
+            Node::Ternary(x, y, z) => ("Ternary(", vec![x, y, z]),
+        };
+        out.push_str(name);
+        for (j, part) in parts.into_iter().enumerate() {
+            if j > 0 {
+                out.push_str(", ");
+            }
+            self.write_part(part, out);
+        }
+        out.push(')');
+    }
+
+    fn write_part(&self, part: Part, out: &mut String) {
+        match part {
+            Part::N => out.push('N'),
+            Part::Integer(x) => out.push_str(&format!("Integer({x})")),
+            Part::Rest(m) => out.push_str(&format!("Op(Modulo, N, Integer({m}))")),
+            Part::At(q) => self.write_tree(q, out),
         }
     }
 
     // The tree's value by the crate's `resolve`; none where it takes a remainder by zero.
     pub fn resolve(&self, at: usize, n: u64) -> Option<u64> {
-        let value = |j| self.resolve(self.operand(at, j), n);
-        Some(match self.codes[at] {
-            0 => n,
-            1 => self.values[at],
-            2 => (value(0)? == 0) as u64,
-            3 => return if value(0)? == 0 { value(2) } else { value(1) },
-            4 => (value(0)? == value(1)?) as u64,
-            5 => (value(0)? != value(1)?) as u64,
-            6 => (value(0)? >= value(1)?) as u64,
-            7 => (value(0)? <= value(1)?) as u64,
-            8 => (value(0)? > value(1)?) as u64,
-            9 => (value(0)? < value(1)?) as u64,
-            10 => (value(0)? != 0 && value(1)? != 0) as u64,
-            11 => (value(0)? != 0 || value(1)? != 0) as u64,
-            _ => return value(0)?.checked_rem(value(1)?),
+        let value = |part| match part {
+            Part::N => Some(n),
+            Part::Integer(x) => Some(x),
+            Part::Rest(m) => n.checked_rem(m),
+            Part::At(q) => self.resolve(q, n),
+        };
+        let (op, x, y) = match self.node(at)? {
+            Node::Leaf(part) => return value(part),
+            Node::Not(part) => return Some((value(part)? == 0) as u64),
+            Node::Ternary(x, y, z) => return if value(x)? == 0 { value(z) } else { value(y) },
+            Node::Op(op, x, y) => (op, x, y),
+        };
+        Some(match op {
+            0 => (value(x)? == value(y)?) as u64,
+            1 => (value(x)? != value(y)?) as u64,
+            2 => (value(x)? >= value(y)?) as u64,
+            3 => (value(x)? <= value(y)?) as u64,
+            4 => (value(x)? > value(y)?) as u64,
+            5 => (value(x)? < value(y)?) as u64,
+            6 => (value(x)? != 0 && value(y)? != 0) as u64,
+            7 => (value(x)? != 0 || value(y)? != 0) as u64,
+            _ => return value(x)?.checked_rem(value(y)?),
         })
     }
 }
-
-

@@ -17,8 +17,10 @@ use Rattle.refusal.specs.declared.Error.the-variants.{BadRecord}
 use Rattle.rules.specs.Tree.{var, int, bin, rem, defaultTree}
 use Rattle.rules.specs.Value.{evalTree, binary}
 use Rattle.rules.specs.Range.{rateTree, binRange, opRange}
-use Rattle.rules.specs.Pool.{Pool, opAt, opOf, treeAt, treeOf, operandsTo, operands, allBelow, used, member, distinct, shaped, isTree}
-use Rattle.rules.specs.Store.{opCode, size, store, zeros, blank}
+use Rattle.rules.specs.Operator.{opAt, opOf, opCode}
+use Rattle.rules.specs.Pool.{Pool, treeAt, treeOf, operandsTo, operands, allBelow, used, member, distinct, shaped, isTree}
+use Rattle.rules.specs.Store.{zeros, blank}
+use Rattle.rules.specs.Pack.{numberOf as integerIn, isCount, isRem, leftOf, pack, nodes, keep, packed}
 use Rattle.rules.specs.Answer.{resolvedOf, ratedOf}
 use Rattle.rules.specs.declared.Rated as rating
 use Rattle.rules.specs.declared.Rated.the-variants.{Range}
@@ -80,38 +82,38 @@ unfolding lookup.plural lastWith lastIn entry word string idStart idEnd front sa
 against-id-every-time-in-text file id r e promise =
     subst (λ (b : Bool). partOr b file 46 1 id r) (ap (λ (s : List ℕ). leb 47 (length s)) e) (promise .says)
 
-pub against-form-0-always : (r : Reason) → r ≡ lookup.plural fileG (tables 50) (resolvedOf (store defaultTree 0 blank) 3 2 2) (lastWith fileG (tables 50) (bytes "a"))
+pub against-form-0-always : (r : Reason) → r ≡ lookup.plural fileG (tables 50) (resolvedOf (packed defaultTree) 1 0 2) (lastWith fileG (tables 50) (bytes "a"))
     → r ≡ Answered 0 1 48 1
 unfolding lookup.plural lastWith lastIn entry word string idStart idEnd front same cut pieceAt segment
-    resolvedOf evalTree binary opAt opOf opCode treeAt treeOf operandsTo operands allBelow used member distinct shaped isTree store size zeros blank
+    resolvedOf evalTree binary opAt opOf opCode treeAt treeOf operandsTo operands allBelow used member distinct shaped isTree zeros blank integerIn isCount isRem leftOf pack nodes keep packed
 against-form-0-always r promise = promise
 
 -- a reading that calls every rule n
-pub against-every-rule-n : {Q : Pool} (r : Parsed) → Parses (parsed Shipped (bytes "+7")) Q r → Q ≡ store (int 7) 0 blank
+pub against-every-rule-n : {Q : Pool} (r : Parsed) → Parses (parsed Shipped (bytes "+7")) Q r → Q ≡ packed (int 7)
 unfolding parsed tested made all trim trimStart trimEnd shipped parseIn parens level choose readNot indexOf indexFrom endFrom integer digitsFrom
 against-every-rule-n r promise = promise .stored
 
 -- a rating that never rates: n%10
-pub against-never-rates : (r : rating.Rated) → r ≡ ratedOf (store (bin rem var (int 10)) 0 blank) 3 2 → r ≡ Range 0 9
-unfolding ratedOf rateTree binRange opRange opAt opOf opCode treeAt treeOf operandsTo operands allBelow used member distinct shaped isTree store size zeros blank
+pub against-never-rates : (r : rating.Rated) → r ≡ ratedOf (packed (bin rem var (int 10))) 1 0 → r ≡ Range 0 9
+unfolding ratedOf rateTree binRange opRange opAt opOf opCode treeAt treeOf operandsTo operands allBelow used member distinct shaped isTree zeros blank integerIn isCount isRem leftOf pack nodes keep packed
 against-never-rates r promise = promise
 
 -- an evaluator stuck at 0
-pub against-stuck-at-0 : (r : resolving.Resolved) → r ≡ resolvedOf (store (int 7) 0 blank) 1 0 5 → r ≡ Form 7
-unfolding resolvedOf evalTree opAt opOf opCode treeAt treeOf operandsTo operands allBelow used member distinct shaped isTree store size zeros blank
+pub against-stuck-at-0 : (r : resolving.Resolved) → r ≡ resolvedOf (packed (int 7)) 1 0 5 → r ≡ Form 7
+unfolding resolvedOf evalTree opAt opOf opCode treeAt treeOf operandsTo operands allBelow used member distinct shaped isTree zeros blank integerIn isCount isRem leftOf pack nodes keep packed
 against-stuck-at-0 r promise = promise
 
 -- demand 3: a lookup that answers the lowest form at every count. The default rule's lowest form is 0; G's "a" at 2 is form 1, byte 48
-pub against-lowest-form : (a : Answer) → a ≡ answerOf 2 (counted fileG (host.headOf (tables 50) 3) (store defaultTree 0 blank) (bytes "a") 2) → (a .form ≡ 1) × (a .start ≡ 48)
+pub against-lowest-form : (a : Answer) → a ≡ answerOf 2 (counted fileG (host.headOf (tables 50) 1) (packed defaultTree) (bytes "a") 2) → (a .form ≡ 1) × (a .start ≡ 48)
 unfolding lookup.plural lastWith lastIn entry word string idStart idEnd front same cut pieceAt segment
-    resolvedOf evalTree binary opAt opOf opCode treeAt treeOf operandsTo operands allBelow used member distinct shaped isTree store size zeros blank
+    resolvedOf evalTree binary opAt opOf opCode treeAt treeOf operandsTo operands allBelow used member distinct shaped isTree zeros blank integerIn isCount isRem leftOf pack nodes keep packed
 against-lowest-form a promise = (ap (λ (x : Answer). x .form) promise, ap (λ (x : Answer). x .start) promise)
 
 -- a load with another rule than the header's: the file H has the empty id at entry 0, and its header says n%3
 abbrev pub fileH : List ℕ
 fileH = set (set (take 44 fileF) 28 0) 36 24 ++ 0 ∷ 0 ∷ bytes "Plural-Forms: plural=n%3" ++ 0 ∷ []
 
-pub against-other-rule : {Q : Pool} (r : Loaded) → Loads (load plain [] fileH) Q r → Q ≡ store (bin rem var (int 3)) 0 blank
+pub against-other-rule : {Q : Pool} (r : Loaded) → Loads (load plain [] fileH) Q r → Q ≡ packed (bin rem var (int 3))
 unfolding load entriesFrom entryStep header ruleAt readAt originalOf headOf orderOf word string contextEnd idStart idEnd context id utf8 rest front every cut
     trim trimStart trimEnd same begins first named lastOf charset plural metadata utf8Label
     parsed tested made all shipped parseIn parens level choose readNot indexOf indexFrom endFrom integer digitsFrom

@@ -14,8 +14,10 @@ use Rattle.refusal.specs.declared.Error.the-variants as error
 use Rattle.rules.specs.Tree.{Tree}
 use Rattle.rules.specs.Value.{evalTree, binary, negated, chosen, truthV}
 use Rattle.rules.specs.Range.{rateTree, binRange, opRange, condRange, notRange, fitsRange}
-use Rattle.rules.specs.Pool.{opAt, opOf, treeAt, treeOf, operandsTo, operands, allBelow, used, member, distinct, shaped, isTree}
-use Rattle.rules.specs.Store.{opCode, size, store, zeros, blank}
+use Rattle.rules.specs.Operator.{opAt, opOf, opCode}
+use Rattle.rules.specs.Pool.{treeAt, treeOf, operandsTo, operands, allBelow, used, member, distinct, shaped, isTree}
+use Rattle.rules.specs.Store.{zeros, blank}
+use Rattle.rules.specs.Pack.{numberOf as integerIn, isCount, isRem, leftOf, pack, nodes, keep, packedSize, packed}
 use Rattle.rules.specs.Answer.{resolvedOf}
 use Rattle.rules.specs.declared.Value.{Value}
 use Rattle.rules.specs.declared.Value.the-variants.{Is, ZeroModulus}
@@ -63,7 +65,7 @@ looked s key (refused e) = number (numberOf e)
 
 abbrev counted : List ℕ → List ℕ → ℕ → Answer → Said
 counted s key n (accepted t r) =
-    let a = lookup.plural s t (resolvedOf (store r 0 blank) (size r) (size r - 1) n) (lastWith s t key) in texted (lookup.number a) (pluralText n a)
+    let a = lookup.plural s t (resolvedOf (packed r) (packedSize r) (packedSize r - 1) n) (lastWith s t key) in texted (lookup.number a) (pluralText n a)
 counted s key n (refused e) = number (numberOf e)
 
 abbrev valued : Value → Said
@@ -96,7 +98,7 @@ computed (fitting s k) = read (parsed Standard s) (λ t. answered (fitsRange (ra
 pub starred-holds : map (λ r. computed (r .0)) starred ≡ map (λ r. r .1) starred
 unfolding load entriesFrom entryStep header ruleAt readAt originalOf headOf orderOf word string contextEnd idStart idEnd context id utf8 rest front trim trimStart trimEnd
     same begins first cut every named lastOf charset plural metadata utf8Label entry pieceAt segment lastIn lastWith lookup.plural pluralText
-    parsed tested made size all tokens lex standard shipped parseIn parens level choose readNot indexOf indexFrom endFrom integer digitsFrom
+    parsed tested made all tokens lex standard shipped parseIn parens level choose readNot indexOf indexFrom endFrom integer digitsFrom
     evalTree binary negated chosen truthV rateTree binRange opRange condRange notRange fitsRange
-    resolvedOf opAt opOf opCode treeAt treeOf operandsTo operands allBelow used member distinct shaped isTree store zeros blank
+    resolvedOf opAt opOf opCode treeAt treeOf operandsTo operands allBelow used member distinct shaped isTree zeros blank integerIn isCount isRem leftOf pack nodes keep packedSize packed
 starred-holds = refl

@@ -29,7 +29,7 @@ pub struct Head {
 pub struct Record {
     pub head: Head,
     pub values: [u64; 512],
-    pub places: [u16; 1536],
+    pub places: [u16; 1024],
     pub codes: [u8; 512],
 }
 
@@ -80,7 +80,7 @@ pub struct Form {
 }
 
 const _: () = assert!(size_of::<Head>() == 56);
-const _: () = assert!(size_of::<Record>() == 7736);
+const _: () = assert!(size_of::<Record>() == 6712);
 const _: () = assert!(size_of::<Loaded>() == 64);
 const _: () = assert!(size_of::<Answer>() == 40);
 const _: () = assert!(size_of::<Rating>() == 24);
@@ -90,7 +90,7 @@ const _: () = assert!(size_of::<Form>() == 16);
 extern "C" {
     fn gettext_c_empty(
         codes: *mut [u8; 512],
-        places: *mut [u16; 1536],
+        places: *mut [u16; 1024],
         values: *mut [u64; 512],
     ) -> Loaded;
     fn gettext_c_load(
@@ -102,7 +102,7 @@ extern "C" {
         standard: u32,
         utf8: u32,
         codes: *mut [u8; 512],
-        places: *mut [u16; 1536],
+        places: *mut [u16; 1024],
         values: *mut [u64; 512],
     ) -> Loaded;
     fn gettext_c_gettext(
@@ -126,7 +126,7 @@ extern "C" {
         file_len: usize,
         head: *const Head,
         codes: *const [u8; 512],
-        places: *const [u16; 1536],
+        places: *const [u16; 1024],
         values: *const [u64; 512],
         id: *const u8,
         id_len: usize,
@@ -137,7 +137,7 @@ extern "C" {
         file_len: usize,
         head: *const Head,
         codes: *const [u8; 512],
-        places: *const [u16; 1536],
+        places: *const [u16; 1024],
         values: *const [u64; 512],
         context: *const u8,
         context_len: usize,
@@ -148,20 +148,20 @@ extern "C" {
     fn gettext_c_rating(
         head: *const Head,
         codes: *const [u8; 512],
-        places: *const [u16; 1536],
+        places: *const [u16; 1024],
         values: *const [u64; 512],
     ) -> Rating;
     fn gettext_c_fits(
         head: *const Head,
         codes: *const [u8; 512],
-        places: *const [u16; 1536],
+        places: *const [u16; 1024],
         values: *const [u64; 512],
         k: u64,
     ) -> Fits;
     fn gettext_c_resolve(
         head: *const Head,
         codes: *const [u8; 512],
-        places: *const [u16; 1536],
+        places: *const [u16; 1024],
         values: *const [u64; 512],
         n: u64,
     ) -> Form;
@@ -182,7 +182,7 @@ pub fn blank() -> Box<Record> {
             root: 0,
         },
         values: [0; 512],
-        places: [0; 1536],
+        places: [0; 1024],
         codes: [0; 512],
     })
 }
