@@ -125,7 +125,7 @@ demand-2-utf8 s = (λ e. utf8-is-text s .0 (one-true (utf8 s) e), λ t. ap truth
 pub record IsCatalog (o : Options) (f s : List ℕ) (Q : Pool) (r : Loaded) : Type 0 where
   pub tree : Tree
   pub facts : Accepts o f s (tablesIn (r .head)) tree
-  pub stored : Q ≡ store tree 0 blank
+  pub stored : Q ≡ packed tree
 
 -- and a number e exactly if e is that of the first test that fails, at the lowest index
 pub record IsRefused (o : Options) (f s : List ℕ) (r : Loaded) : Type 0 where
@@ -137,12 +137,12 @@ module _ (o : Options) (f s : List ℕ) {Q : Pool} {r : Loaded} (loads : Loads (
   pub demand-2-accepts : r .number ≡ 0 → IsCatalog o f s Q r
   demand-2-accepts e = record { tree = treeIn (load o f s); facts = accepted-exactly o f s _ _ .0 (was-accepted o f s loads e); stored = loads .rule-is }
 
-  pub demand-2-accepted : (t : Tables) (u : Tree) → Accepts o f s t u → (r .number ≡ 0) × (tablesIn (r .head) ≡ t) × (Q ≡ store u 0 blank)
+  pub demand-2-accepted : (t : Tables) (u : Tree) → Accepts o f s t u → (r .number ≡ 0) × (tablesIn (r .head) ≡ t) × (Q ≡ packed u)
   demand-2-accepted t u w =
       let e = accepted-exactly o f s t u .1 w in (
         loads .number-is ∙ ap (λ (a : Answer). outcomeNumber (outcomeOf a)) e,
         loads .tables-are ∙ ap (λ (a : Answer). answer.tablesIn a) e,
-        loads .rule-is ∙ ap (λ (a : Answer). store (treeIn a) 0 blank) e,
+        loads .rule-is ∙ ap (λ (a : Answer). packed (treeIn a)) e,
       )
 
   pub demand-2-fails : (e : Error) → Fails o f s e → r .number ≡ numberOf e
