@@ -12,7 +12,7 @@ use borrow.Author.Tests.{ltb-true, lt-ltb, le-ltb, le-leb}
 use Rattle.text.proofs.Tests.{never, taken, left, by-test}
 use Rattle.container_layout.specs.declared.Entry.{Entry}
 use Rattle.container_layout.specs.declared.Entry.the-variants as entries
-use Rattle.lookup_scan.specs.Keys.{isKey, hitOf, lastIn, entryOf, lastWith}
+use Rattle.lookup_scan.specs.Keys.{isKey, hitOf, lastIn, entry, lastWith}
 use Rattle.container_layout.specs.declared.Tables.{Tables}
 use Rattle.lookup_scan.specs.declared.Hit.{Hit}
 use Rattle.lookup_scan.specs.declared.Hit.the-variants as hit
@@ -29,7 +29,7 @@ module _ (s : List ℕ) (t : Tables) where
   has-in key (entries.At a n b m) = refl
   has-in key entries.NoEntry = refl
 
-  pub key-below : (i : ℕ) → i < t .count → keyAt s t i ≡ keyIn s (entryOf s t i)
+  pub key-below : (i : ℕ) → i < t .count → keyAt s t i ≡ keyIn s (entry s t i)
   unfolding keyAt
   key-below i h = taken _ _ (lt-ltb i (t .count) h)
 
@@ -37,19 +37,19 @@ module _ (s : List ℕ) (t : Tables) where
   unfolding keyAt
   key-above i h = left _ _ (le-ltb i (t .count) h)
 
-  pub has-below : (key : List ℕ) (i : ℕ) → i < t .count → has key (keyAt s t i) ≡ isKey s key (entryOf s t i)
-  has-below key i h = ap (has key) (key-below i h) ∙ has-in key (entryOf s t i)
+  pub has-below : (key : List ℕ) (i : ℕ) → i < t .count → has key (keyAt s t i) ≡ isKey s key (entry s t i)
+  has-below key i h = ap (has key) (key-below i h) ∙ has-in key (entry s t i)
 
   -- the scan, as `keys` has it
-  scanned : (key : List ℕ) (n : ℕ) → n ≤ t .count → hitIn s t (last (keyAt s t) key n) ≡ lastIn (entryOf s t) (isKey s key) n
+  scanned : (key : List ℕ) (n : ℕ) → n ≤ t .count → hitIn s t (last (keyAt s t) key n) ≡ lastIn (entry s t) (isKey s key) n
   unfolding last lastIn
   scanned key zero h = refl
   scanned key (suc i) h =
-      by-test (hitIn s t (last (keyAt s t) key (suc i)) ≡ lastIn (entryOf s t) (isKey s key) (suc i)) (isKey s key (entryOf s t i))
+      by-test (hitIn s t (last (keyAt s t) key (suc i)) ≡ lastIn (entry s t) (isKey s key) (suc i)) (isKey s key (entry s t i))
       (λ e. ap (hitIn s t) (last-here (keyAt s t) key i (has-below key i h ∙ e)) ∙ sym (taken _ _ e))
       (λ e.
       ap (hitIn s t) (last-on (keyAt s t) key i (has-below key i h ∙ e)) ∙ scanned key i (omega arith)
-      ∙ sym (left (hitOf i (entryOf s t i)) (lastIn (entryOf s t) (isKey s key) i) e))
+      ∙ sym (left (hitOf i (entry s t i)) (lastIn (entry s t) (isKey s key) i) e))
 
   pub index-length : length (index s t) ≡ used (t .count)
   unfolding index
@@ -69,14 +69,14 @@ module _ (s : List ℕ) (t : Tables) where
   -- In any slots at all: a hit is an entry below the count that has the key, and where its translation lies
   pub record Entered (key : List ℕ) (i start len : ℕ) : Type 0 where
     pub below : i < t .count
-    pub has-key : isKey s key (entryOf s t i) ≡ true
-    pub lies : hitOf i (entryOf s t i) ≡ hit.At i start len
+    pub has-key : isKey s key (entry s t i) ≡ true
+    pub lies : hitOf i (entry s t i) ≡ hit.At i start len
 
   pub below-of : (key : List ℕ) (i : ℕ) → has key (keyAt s t i) ≡ true → i < t .count
   unfolding keyAt
   below-of key i h =
       by-test (i < t .count) (ltb i (t .count)) (λ e. ltb-true i (t .count) e)
-      (λ e. absurd (never (sym (ap (has key) (left (keyIn s (entryOf s t i)) none e)) ∙ h)))
+      (λ e. absurd (never (sym (ap (has key) (left (keyIn s (entry s t i)) none e)) ∙ h)))
 
   hit-index : (i : ℕ) (x : Entry) {j a n : ℕ} → hitOf i x ≡ hit.At j a n → i ≡ j
   hit-index i (entries.At a n b m) e = cc
@@ -87,7 +87,7 @@ module _ (s : List ℕ) (t : Tables) where
   by-slot key (suc j) {i} {a} {n} h e =
       let w : has key (keyAt s t j) ≡ true = h (omega arith) in
       let l : j < t .count = below-of key j w in
-      let z : j ≡ i = hit-index j (entryOf s t j) e in
+      let z : j ≡ i = hit-index j (entry s t j) e in
       rw (← z) (record { below = l; has-key = sym (has-below key j l) ∙ w; lies = e ∙ ap (λ (y : ℕ). hit.At y a n) (sym z) })
 
   pub any-slots : (slots key : List ℕ) {i start len : ℕ} → indexed s t slots key ≡ hit.At i start len → Entered key i start len

@@ -15,7 +15,7 @@ use Rattle.text.proofs.Tests.{taken, left, by-test}
 use Rattle.text.proofs.Walk.{rest-at, rest-end}
 use Rattle.container_layout.specs.declared.Entry.{Entry}
 use Rattle.container_layout.specs.declared.Entry.the-variants as entries
-use Rattle.lookup_scan.specs.Keys.{entryOf}
+use Rattle.lookup_scan.specs.Keys.{entry}
 use Rattle.container_layout.specs.declared.Tables.{Tables}
 use Rattle.lookup_scan.proofs.Entries.{inside}
 use Rattle.lookup_slots.specs.Used.{used}
@@ -59,7 +59,7 @@ module _ (b : List ℕ) where
       w .is ∙ rw (rest-end b i (omega arith), mathlib.Core.List.append-nil) (ap zeros z)
 
 -- entry i goes in
-module _ (s : List ℕ) (t : Tables) (i : ℕ) (l : i < t .count) {x : Entry} (e : x ≡ entryOf s t i) (slots : List ℕ) where
+module _ (s : List ℕ) (t : Tables) (i : ℕ) (l : i < t .count) {x : Entry} (e : x ≡ entry s t i) (slots : List ℕ) where
   key-is : (o : Entry) → x ≡ o → keyAt s t i ≡ keyIn s o
   key-is o f = key-below s t i l ∙ ap (keyIn s) (sym e ∙ f)
 

@@ -11,7 +11,7 @@ use Rattle.lookup_slots.specs.Promise.{roomIn}
 use Rattle.lookup_slots.specs.declared.Room.{Room}
 use Rattle.lookup_slots.specs.declared.Room.the-variants.{Uses}
 use Rattle.lookup_slots.proofs.Used.{power-positive, used-smallest}
-use Rattle.lookup_index.specs.Promise.{Power}
+use Rattle.lookup_index.specs.Private.{Power}
 use Rattle.lookup_index.proofs.Filled.{room-taken, part-length}
 
 pub power-one : {m : ℕ} → Power m → 1 ≤ m

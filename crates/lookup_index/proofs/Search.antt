@@ -11,7 +11,7 @@ use borrow.Author.Tests.{eq-eqb, ne-eqb}
 use Rattle.text.proofs.Tests.{never, taken, left, by-test}
 use Rattle.container_layout.specs.declared.Entry.{Entry}
 use Rattle.container_layout.specs.declared.Entry.the-variants as entries
-use Rattle.lookup_scan.specs.Keys.{keyOf, isKey, hitOf, entryOf}
+use Rattle.lookup_scan.specs.Keys.{keyOf, isKey, hitOf, entry}
 use Rattle.lookup_scan.specs.Promise.{hitIf}
 use Rattle.container_layout.specs.declared.Tables.{Tables}
 use Rattle.lookup_scan.specs.declared.Hit.{Hit}
@@ -23,7 +23,7 @@ use Rattle.lookup_slots.specs.Slots.{next, first, has, stops, place, walk}
 use Rattle.lookup_slots.proofs.Hashed.{hash-joined}
 use Rattle.lookup_slots.proofs.First.{first-here, first-on, first-end, next-less}
 use Rattle.lookup_index.specs.Index.{keyAt, hitIn, indexed}
-use Rattle.lookup_index.specs.Promise.{beforeId, Next, named}
+use Rattle.lookup_index.specs.Private.{beforeId, Next, named}
 use Rattle.lookup_index.proofs.Answers.{key-above, has-below, below-of, any-slots}
 
 -- the hash of a key that is context, byte 4 and id, or the id only
@@ -60,7 +60,7 @@ module _ (s : List ℕ) (t : Tables) (key : List ℕ) where
   not-hit (entries.At a n b m) i e f = let z : _≡_ {A = ℕ} 0 1 = cc in omega arith
   not-hit entries.NoEntry i e f = never e
 
-  named-true : (i : ℕ) → has key (keyAt s t i) ≡ true → named s t key (suc i) ≡ hitOf i (entryOf s t i)
+  named-true : (i : ℕ) → has key (keyAt s t i) ≡ true → named s t key (suc i) ≡ hitOf i (entry s t i)
   unfolding named
   named-true i e = taken _ _ e
 
@@ -83,9 +83,9 @@ module _ (s : List ℕ) (t : Tables) (key : List ℕ) where
     pub named-below : {h : Hit} → w - 1 < t .count → h ≡ hitIf s t key (w - 1) → h ≡ named s t key x
     unfolding hitIf
     named-below l f =
-        f ∙ sym (ap (named s t key) one-less ∙ by-test (named s t key (suc (w - 1)) ≡ hitIf s t key (w - 1)) (isKey s key (entryOf s t (w - 1)))
+        f ∙ sym (ap (named s t key) one-less ∙ by-test (named s t key (suc (w - 1)) ≡ hitIf s t key (w - 1)) (isKey s key (entry s t (w - 1)))
         (λ y. named-true (w - 1) (has-below s t key (w - 1) l ∙ y) ∙ sym (taken _ _ y))
-        (λ y. named-false (w - 1) (has-below s t key (w - 1) l ∙ y) ∙ sym (left (hitOf (w - 1) (entryOf s t (w - 1))) hit.Missing y)))
+        (λ y. named-false (w - 1) (has-below s t key (w - 1) l ∙ y) ∙ sym (left (hitOf (w - 1) (entry s t (w - 1))) hit.Missing y)))
 
   -- where it names one, the search stops, and where it does not, it goes on
   pub named-stops : (x : ℕ) {a b c : ℕ} → named s t key x ≡ hit.At a b c → stops (keyAt s t) key x ≡ true
@@ -98,14 +98,14 @@ module _ (s : List ℕ) (t : Tables) (key : List ℕ) where
   unfolding named
   named-is zero f = f
   named-is (suc i) f =
-      by-test (hitOf i (entryOf s t i) ≡ hit.At _ _ _) (has key (keyAt s t i)) (λ e. sym (named-true i e) ∙ f)
+      by-test (hitOf i (entry s t i) ≡ hit.At _ _ _) (has key (keyAt s t i)) (λ e. sym (named-true i e) ∙ f)
       (λ e. absurd (missed (sym (named-false i e) ∙ f)))
 
   pub named-passed : (x : ℕ) → (x ≡ 0 → ⊥) → named s t key x ≡ hit.Missing → stops (keyAt s t) key x ≡ false
   named-passed zero n f = absurd (n refl)
   named-passed (suc i) n f =
       by-test (has key (keyAt s t i) ≡ false) (has key (keyAt s t i))
-      (λ e. absurd (not-hit (entryOf s t i) i (sym (has-below s t key i (below-of s t key i e)) ∙ e) (sym (named-true i e) ∙ f))) (λ e. e)
+      (λ e. absurd (not-hit (entry s t i) i (sym (has-below s t key i (below-of s t key i e)) ∙ e) (sym (named-true i e) ∙ f))) (λ e. e)
 
   -- the code's tests
   module _ {h : Hit} (x : ℕ) (f : h ≡ named s t key x) where

@@ -4,17 +4,22 @@ use mathlib.Core.Bool.{true, false}
 use mathlib.Core.List.{List, _++_}
 use mathlib.Core.Option.{Option, none, some}
 use lib.ListN.{length, take, drop}
-use lib.Dec.{ltb, leb}
+use lib.Dec.{eqb, ltb, leb}
+use Rattle.refusal.specs.Numbers.{numberOf}
+use Rattle.refusal.specs.declared.Error.the-variants as error
+use Rattle.container_layout.specs.Mo.{entry}
 use Rattle.container_layout.specs.declared.Entry.{Entry}
 use Rattle.container_layout.specs.declared.Entry.the-variants as entries
-use Rattle.lookup_scan.specs.Keys.{entryOf, hitOf}
 use Rattle.container_layout.specs.declared.Tables.{Tables}
+use Rattle.lookup_scan.specs.Keys.{hitOf}
 use Rattle.lookup_scan.specs.declared.Hit.{Hit}
 use Rattle.lookup_scan.specs.declared.Hit.the-variants as hit
-use Rattle.lookup_index.specs.declared.Sought.{Sought}
-use Rattle.lookup_index.specs.declared.Sought.the-variants as soughts
 use Rattle.lookup_slots.specs.Used.{used}
 use Rattle.lookup_slots.specs.Slots.{built, walk}
+use Rattle.lookup_index.specs.declared.Sought.{Sought}
+use Rattle.lookup_index.specs.declared.Sought.the-variants as sought
+use Rattle.lookup_index.specs.declared.Building.{Building}
+use Rattle.lookup_index.specs.declared.Building.the-variants as building
 
 -- the key of an entry of the file s
 abbrev pub keyIn : List ℕ → Entry → Option (List ℕ)
@@ -23,7 +28,8 @@ keyIn s entries.NoEntry = none
 
 -- the key of entry i; from the count on there is no entry
 unfoldable pub keyAt : List ℕ → Tables → ℕ → Option (List ℕ)
-keyAt s t i = elim (ltb i (t .count)) [ true ↦ keyIn s (entryOf s t i) | false ↦ none ]
+unfolding entry
+keyAt s t i = elim (ltb i (t .count)) [ true ↦ keyIn s (entry s t i) | false ↦ none ]
 
 -- the index of a catalog: its entries by index, in the slots that it uses
 unfoldable pub index : List ℕ → Tables → List ℕ
@@ -33,30 +39,35 @@ index s t = built (keyAt s t) (used (t .count)) (t .count)
 -- the entry that a slot names
 abbrev pub hitIn : List ℕ → Tables → ℕ → Hit
 hitIn s t zero = hit.Missing
-hitIn s t (suc i) = hitOf i (entryOf s t i)
+hitIn s t (suc i) = hitOf i (entry s t i)
 
--- a lookup in any slots
+-- a lookup in any slots: the walk ends at an entry, an empty slot, or after all of them
 unfoldable pub indexed : List ℕ → Tables → List ℕ → List ℕ → Hit
 unfolding keyAt
 indexed s t slots key = hitIn s t (walk (keyAt s t) key slots)
 
--- a lookup in slots that are lent, of which the first are used; and what building leaves in them
-abbrev pub indexedIn : List ℕ → Tables → List ℕ → List ℕ → Hit
-indexedIn s t lent key = indexed s t (take (used (t .count)) lent) key
-
-abbrev pub builtIn : List ℕ → Tables → List ℕ → List ℕ
-builtIn s t lent = index s t ++ drop (used (t .count)) lent
-
--- too few are refused
-abbrev pub sought : Hit → Sought
-sought (hit.At i start len) = soughts.At i start len
-sought hit.Missing = soughts.Missing
-
+-- of the slots lent the first are used; fewer are refused
 unfoldable pub soughtIn : List ℕ → Tables → List ℕ → List ℕ → Sought
 unfolding used indexed
-soughtIn s t lent key = elim (leb (used (t .count)) (length lent)) [ true ↦ sought (indexedIn s t lent key) | false ↦ soughts.TooFew ]
+soughtIn s t lent key =
+    elim (leb (used (t .count)) (length lent)) [ true ↦ sought.Found (indexed s t (take (used (t .count)) lent) key) | false ↦ sought.TooFew ]
 
--- nothing is written where too few are lent
-unfoldable pub afterBuild : List ℕ → Tables → List ℕ → List ℕ
-unfolding used index
-afterBuild s t lent = elim (leb (used (t .count)) (length lent)) [ true ↦ builtIn s t lent | false ↦ lent ]
+-- building tests the length of the file, and then how many slots are lent
+unfoldable pub building : List ℕ → Tables → ℕ → Building
+unfolding used
+building s t lent =
+    elim (eqb (length s) (t .length)) [
+      | true ↦ elim (leb (used (t .count)) lent) [ true ↦ building.Built | false ↦ building.TooFew ]
+      | false ↦ building.StaleLength
+    ]
+
+-- what it leaves in the slots lent: those that are not used stay, and after a refusal all of them
+abbrev pub leaves : List ℕ → Tables → List ℕ → Building → List ℕ
+leaves s t lent building.Built = index s t ++ drop (used (t .count)) lent
+leaves s t lent building.StaleLength = lent
+leaves s t lent building.TooFew = lent
+
+abbrev pub number : Building → ℕ
+number building.Built = 0
+number building.StaleLength = numberOf error.BadRecord
+number building.TooFew = numberOf error.IndexRoom

@@ -1,32 +1,39 @@
-// The index of a catalog in lent slots: built from its entries, and searched for a key. Not in the Rust, whose HashMap does both.
-use keys::Hit;
-use keys::Size;
-use keys::Tables;
-use layout::Entry;
-use slots::Room;
+// The index of a catalog in slots that the caller lends: built from its entries, and searched for a key. Not in the Rust, whose HashMap does
+// both. A slot holds an entry's index plus 1, or 0.
+use container_layout::Entry;
+use container_layout::Tables;
+use container_layout::wide;
+use lookup_scan::Hit;
+use lookup_scan::Size;
+use lookup_slots::Room;
+use refusal::Error;
 ghost use mathlib.Core.Path.{_≡_};
-ghost use Prim.Native.Nat.{_+_, _%_, _<_};
+ghost use Prim.Native.Nat.{_%_, _<_};
 ghost use lib.ListN.{length};
-ghost use lib.Dec.{leb};
 ghost use Rattle.lookup_scan.specs.Keys.{keyOf};
 ghost use Rattle.lookup_slots.specs.Hash.{hash};
 ghost use Rattle.lookup_slots.specs.Promise.{Hashes};
-ghost use Rattle.lookup_slots.specs.Used.{used};
-ghost use Rattle.lookup_slots.specs.Slots.{next, stops, place, insert, zeros, built};
-ghost use Rattle.lookup_index.specs.Index.{keyAt, indexed, soughtIn, afterBuild};
-ghost use Rattle.lookup_index.specs.Promise.{beforeId, Power, Next, named};
+ghost use Rattle.lookup_slots.specs.Slots.{insert, zeros, built};
+ghost use Rattle.lookup_index.specs.Index.{keyAt, indexed, soughtIn, building, leaves, number};
+ghost use Rattle.lookup_index.specs.Private.{beforeId, Power, Next, named, Stops};
 
-// What a lookup in lent slots finds.
+// What a lookup in lent slots finds: the entry with the key, or that too few slots are lent.
 pub enum Sought {
-    At(usize, usize, usize),
-    Missing,
+    Found(Hit),
     TooFew,
 }
 
-fn wide(x: u32) -> usize
-    ensures { λ r. ⌜ r ≡ x ⌝ }
-{
-    x as usize
+// How building went: the slots are set; the file's length is not the record's; too few slots are lent.
+pub enum Building {
+    Built,
+    StaleLength,
+    TooFew,
+}
+
+// Where the search for a key stops: the slot, or without one how many there are; and the entry that the slot names.
+struct Stop {
+    place: usize,
+    hit: Hit,
 }
 
 fn narrow(x: usize) -> u32
@@ -43,19 +50,19 @@ fn before_id(given: bool, context: &[u8]) -> usize
     if !given {
         return 5381;
     }
-    let h = slots::hash_from(5381, context);
+    let h = lookup_slots::hash_from(5381, context);
     (h * 33 + 4) % 4294967296
 }
 
-// The hash of a key.
+// The hash of a key, which is not put together for it.
 fn hash_of(given: bool, context: &[u8], id: &[u8]) -> usize
     ensures { λ r. ⌜ r ≡ hash (keyOf given (now (context .entry)) (now (id .entry))) ⌝ }
 {
     let h = before_id(given, context);
-    hash_words::hash_from(h, id)
+    lookup_slots::hash_from(h, id)
 }
 
-// The first slot that a search for a hash looks at.
+// The first slot that a search for a hash looks at: the hash's low bits.
 fn home(h: usize, m: usize) -> usize
     requires { ⌜ Power m ⌝ }
     ensures { λ r. ⌜ (r ≡ h % m) × (r < m) ⌝ }
@@ -74,7 +81,7 @@ fn next_of(p: usize, m: usize) -> usize
     q
 }
 
-// The entry that a slot names, where it has the key, which is n bytes long.
+// The entry that a slot names, where it has the key, which is n bytes long. A number above the count names none.
 fn named_by(file: &[u8], t: Tables, x: u32, n: usize, given: bool, context: &[u8], id: &[u8]) -> Hit
     requires { ⌜ n ≡ length (keyOf given (now context) (now id)) ⌝ }
     ensures { λ r. ⌜ r ≡ named (now (file .entry)) t (keyOf given (now (context .entry)) (now (id .entry))) x ⌝ }
@@ -82,38 +89,15 @@ fn named_by(file: &[u8], t: Tables, x: u32, n: usize, given: bool, context: &[u8
     if x == 0 {
         return Hit::Missing;
     }
-    let i = wide(x) - 1;
-    if t.count <= i {
+    if t.count < x {
         return Hit::Missing;
     }
-    keys::hit_at(file, t, i, n, given, context, id)
+    let i = wide(x) - 1;
+    lookup_scan::hit_at(file, t, i, n, given, context, id)
 }
 
-// Whether the search for a key of n bytes stops at a slot that holds x.
-fn stops_at(
-    file: &[u8],
-    t: Tables,
-    x: u32,
-    n: usize,
-    given: bool,
-    context: &[u8],
-    id: &[u8],
-) -> bool
-    requires { ⌜ n ≡ length (keyOf given (now context) (now id)) ⌝ }
-    ensures { λ r. ⌜ r ≡ stops (keyAt (now (file .entry)) t) (keyOf given (now (context .entry)) (now (id .entry))) x ⌝ }
-{
-    if x == 0 {
-        return true;
-    }
-    let hit = named_by(file, t, x, n, given, context, id);
-    if let Hit::At(entry, start, len) = hit {
-        return true;
-    }
-    false
-}
-
-// The slot where the search for a key of n bytes stops, or without one how many there are.
-fn find_place(
+// The search for a key of n bytes, through at most all slots.
+fn search(
     file: &[u8],
     t: Tables,
     slots: &[u32],
@@ -121,79 +105,77 @@ fn find_place(
     given: bool,
     context: &[u8],
     id: &[u8],
-) -> usize
+) -> Stop
     requires { ⌜ n ≡ length (keyOf given (now context) (now id)) ⌝ }
     requires { ⌜ Power (length (now slots)) ⌝ }
-    ensures { λ r. ⌜ r ≡ place (keyAt (now (file .entry)) t) (keyOf given (now (context .entry)) (now (id .entry))) (now (slots .entry)) ⌝ }
+    ensures { λ r. ⌜ Stops (now (file .entry)) t (now (slots .entry)) (keyOf given (now (context .entry)) (now (id .entry))) r ⌝ }
 {
-    let m = slots.len();
-    let mut p = home(hash_of(given, context, id), m);
-    let mut left = m;
-    while 0 < left {
-        if stops_at(file, t, slots[p], n, given, context, id) {
-            return p;
-        }
-        p = next_of(p, m);
-        left -= 1;
-    }
-    m
-}
-
-// The last entry with the key, by the slots that an index uses.
-pub fn hit(file: &[u8], t: Tables, slots: &[u32], given: bool, context: &[u8], id: &[u8]) -> Hit
-    requires { ⌜ Power (length (now slots)) ⌝ }
-    ensures { λ r. ⌜ r ≡ indexed (now (file .entry)) t (now (slots .entry)) (keyOf given (now (context .entry)) (now (id .entry))) ⌝ }
-{
-    let size = keys::size_of(file.len(), given, context, id);
-    let Size::Is(n) = size else {
-        return Hit::Missing;
-    };
     let m = slots.len();
     let mut p = home(hash_of(given, context, id), m);
     let mut left = m;
     while 0 < left {
         let x = slots[p];
         if x == 0 {
-            return Hit::Missing;
+            return Stop {
+                place: p,
+                hit: Hit::Missing,
+            };
         }
         let hit = named_by(file, t, x, n, given, context, id);
         if let Hit::At(entry, start, len) = hit {
-            return Hit::At(entry, start, len);
+            return Stop {
+                place: p,
+                hit: Hit::At(entry, start, len),
+            };
         }
         p = next_of(p, m);
         left -= 1;
     }
-    Hit::Missing
-}
-
-// The last entry with the key, by slots that are lent, unless there are too few.
-pub fn find(file: &[u8], t: Tables, slots: &[u32], given: bool, context: &[u8], id: &[u8]) -> Sought
-    ensures { λ r. ⌜ r ≡ soughtIn (now (file .entry)) t (now (slots .entry)) (keyOf given (now (context .entry)) (now (id .entry))) ⌝ }
-{
-    let room = slots::room_for(t.count, slots.len());
-    let Room::Uses(size) = room else {
-        return Sought::TooFew;
-    };
-    let found = hit(file, t, &slots[..size], given, context, id);
-    match found {
-        Hit::At(i, start, len) => Sought::At(i, start, len),
-        Hit::Missing => Sought::Missing,
+    Stop {
+        place: m,
+        hit: Hit::Missing,
     }
 }
 
-// Entry i goes into the slots.
+// The entry with the key, by the slots that an index uses.
+fn hit_in(file: &[u8], t: Tables, slots: &[u32], given: bool, context: &[u8], id: &[u8]) -> Hit
+    requires { ⌜ Power (length (now slots)) ⌝ }
+    ensures { λ r. ⌜ r ≡ indexed (now (file .entry)) t (now (slots .entry)) (keyOf given (now (context .entry)) (now (id .entry))) ⌝ }
+{
+    let size = lookup_scan::size_of(file.len(), given, context, id);
+    let Size::Is(n) = size else {
+        return Hit::Missing;
+    };
+    let stop = search(file, t, slots, n, given, context, id);
+    stop.hit
+}
+
+// The entry with the key, by slots that are lent, of which the first are used.
+pub fn find(file: &[u8], t: Tables, slots: &[u32], given: bool, context: &[u8], id: &[u8]) -> Sought
+    ensures { λ r. ⌜ r ≡ soughtIn (now (file .entry)) t (now (slots .entry)) (keyOf given (now (context .entry)) (now (id .entry))) ⌝ }
+{
+    let room = lookup_slots::room_for(t.count, slots.len());
+    let Room::Uses(size) = room else {
+        return Sought::TooFew;
+    };
+    let hit = hit_in(file, t, &slots[..size], given, context, id);
+    Sought::Found(hit)
+}
+
+// Entry i goes into the slots: where the search for its key stops.
 fn put(file: &[u8], t: Tables, i: usize, slots: &mut [u32])
-    requires { ⌜ (i < t .count) × (i + 1 < 4294967296) ⌝ }
+    requires { ⌜ i < t .count ⌝ }
     requires { ⌜ Power (length (now slots)) ⌝ }
     ensures { λ _. ⌜ now (slots .exit) ≡ insert (keyAt (now (file .entry)) t) i (keyAt (now (file .entry)) t i) (now (slots .entry)) ⌝ }
 {
-    let entry = entries::entry_at(file, t.big, t.originals, t.translations, i);
+    let entry = container_layout::entry_at(file, t, i);
     let Entry::At(at, n, start, len) = entry else {
         return;
     };
     let end = at + n;
     let key = &file[at..end];
-    let p = find_place(file, t, &*slots, n, false, key, key);
+    let stop = search(file, t, &*slots, n, false, key, key);
+    let p = stop.place;
     if p < slots.len() {
         slots[p] = narrow(i + 1);
     }
@@ -209,30 +191,43 @@ fn clear(slots: &mut [u32])
     }
 }
 
-// The entries go into as many slots as there are.
+// The entries go, by index, into as many slots as there are.
 fn fill(file: &[u8], t: Tables, slots: &mut [u32])
-    requires { ⌜ t .count < 4294967296 ⌝ }
     requires { ⌜ Power (length (now slots)) ⌝ }
     ensures { λ _. ⌜ now (slots .exit) ≡ built (keyAt (now (file .entry)) t) (length (now (slots .entry))) (t .count) ⌝ }
 {
     clear(&mut *slots);
+    let count = wide(t.count);
     let mut i = 0;
-    while i < t.count {
+    while i < count {
         put(file, t, i, &mut *slots);
         i += 1;
     }
 }
 
-// The index of a catalog goes into the first of the slots lent. False, and nothing written, where there are too few.
-pub fn build(file: &[u8], t: Tables, slots: &mut [u32]) -> bool
-    requires { ⌜ t .count < 4294967296 ⌝ }
-    ensures { λ r. ⌜ r ≡ leb (used (t .count)) (length (now (slots .entry))) ⌝ }
-    ensures { λ _. ⌜ now (slots .exit) ≡ afterBuild (now (file .entry)) t (now (slots .entry)) ⌝ }
+// The index of a catalog goes into the first of the slots lent.
+pub fn build(file: &[u8], t: Tables, slots: &mut [u32]) -> Building
+    ensures result { λ r. ⌜ r ≡ building (now (file .entry)) t (length (now (slots .entry))) ⌝ }
+    ensures left { λ r. ⌜ now (slots .exit) ≡ leaves (now (file .entry)) t (now (slots .entry)) r ⌝ }
 {
-    let room = slots::room_for(t.count, slots.len());
+    if file.len() != t.length {
+        return Building::StaleLength;
+    }
+    let room = lookup_slots::room_for(t.count, slots.len());
     let Room::Uses(size) = room else {
-        return false;
+        return Building::TooFew;
     };
     fill(file, t, &mut slots[..size]);
-    true
+    Building::Built
+}
+
+// Its number.
+pub fn number_of(building: Building) -> u32
+    ensures { λ r. ⌜ r ≡ number building ⌝ }
+{
+    match building {
+        Building::Built => 0,
+        Building::StaleLength => refusal::number_of(Error::BadRecord),
+        Building::TooFew => refusal::number_of(Error::IndexRoom),
+    }
 }
