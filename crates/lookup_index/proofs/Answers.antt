@@ -1,27 +1,31 @@
 -- A lookup by the index answers as the scan does, and in any slots an entry with the key. Assumes nothing.
-use Prim.Native.Nat.{ℕ, zero, suc, _+_, _<_, _≤_}
+use Prim.Native.Nat.{ℕ, zero, suc, _<_, _≤_}
 use mathlib.Core.Path.{_≡_, refl, sym, ap, _∙_}
-use mathlib.Core.Bool.{Bool, true, false}
-use mathlib.Core.List.{List, [], _∷_, _++_}
-use mathlib.Core.Option.{Option, none, some}
+use mathlib.Core.Bool.{true, false}
+use mathlib.Core.List.{List, _++_}
+use mathlib.Core.Option.{none}
 use native.Mathlib.Omega.{arith}
 use lib.ListN.{length, take, drop, length-append}
 use lib.Seq.{take-at}
-use lib.Dec.{ltb, leb}
+use lib.Dec.{eqb, ltb, leb}
 use borrow.Author.Tests.{ltb-true, lt-ltb, le-ltb, le-leb}
 use Rattle.text.proofs.Tests.{never, taken, left, by-test}
+use Rattle.container_layout.specs.Mo.{entry}
 use Rattle.container_layout.specs.declared.Entry.{Entry}
 use Rattle.container_layout.specs.declared.Entry.the-variants as entries
-use Rattle.lookup_scan.specs.Keys.{isKey, hitOf, lastIn, entry, lastWith}
 use Rattle.container_layout.specs.declared.Tables.{Tables}
+use Rattle.lookup_scan.specs.Keys.{isKey, hitOf, lastIn, lastWith}
 use Rattle.lookup_scan.specs.declared.Hit.{Hit}
 use Rattle.lookup_scan.specs.declared.Hit.the-variants as hit
+use Rattle.lookup_scan.proofs.Entries.{keyed-told}
+use Rattle.lookup_scan.proofs.Last.{Entered, Sound}
 use Rattle.lookup_slots.specs.Used.{used}
 use Rattle.lookup_slots.specs.Slots.{has, walk, last, built}
 use Rattle.lookup_slots.proofs.Used.{used-more}
 use Rattle.lookup_slots.proofs.Built.{Holds, walk-holds, walk-built, built-length, last-here, last-on}
-use Rattle.lookup_index.specs.Index.{keyIn, keyAt, index, hitIn, indexed, indexedIn, builtIn, sought, soughtIn, afterBuild}
-use Rattle.lookup_index.specs.declared.Sought.the-variants as soughts
+use Rattle.lookup_index.specs.Index.{keyIn, keyAt, index, hitIn, indexed, soughtIn, building, leaves}
+use Rattle.lookup_index.specs.declared.Sought.the-variants as sought
+use Rattle.lookup_index.specs.declared.Building.the-variants as went
 
 module _ (s : List ℕ) (t : Tables) where
   -- an entry has the key, said of it and of its place
@@ -40,7 +44,7 @@ module _ (s : List ℕ) (t : Tables) where
   pub has-below : (key : List ℕ) (i : ℕ) → i < t .count → has key (keyAt s t i) ≡ isKey s key (entry s t i)
   has-below key i h = ap (has key) (key-below i h) ∙ has-in key (entry s t i)
 
-  -- the scan, as `keys` has it
+  -- the scan, in the words of the slots
   scanned : (key : List ℕ) (n : ℕ) → n ≤ t .count → hitIn s t (last (keyAt s t) key n) ≡ lastIn (entry s t) (isKey s key) n
   unfolding last lastIn
   scanned key zero h = refl
@@ -61,62 +65,50 @@ module _ (s : List ℕ) (t : Tables) where
   indexed-as-scan key =
       ap (hitIn s t) (walk-built (keyAt s t) (used (t .count)) (t .count) (omega (arith, used-more (t .count))) key) ∙ scanned key (t .count) (omega arith)
 
-  -- the same of slots that are lent and built, whatever was in them
-  pub built-as-scan : (lent key : List ℕ) → indexedIn s t (builtIn s t lent) key ≡ lastWith s t key
-  built-as-scan lent key =
-      ap (λ (x : List ℕ). indexed s t x key) (take-at (index s t) (drop (used (t .count)) lent) (used (t .count)) index-length) ∙ indexed-as-scan key
-
   -- In any slots at all: a hit is an entry below the count that has the key, and where its translation lies
-  pub record Entered (key : List ℕ) (i start len : ℕ) : Type 0 where
-    pub below : i < t .count
-    pub has-key : isKey s key (entry s t i) ≡ true
-    pub lies : hitOf i (entry s t i) ≡ hit.At i start len
-
   pub below-of : (key : List ℕ) (i : ℕ) → has key (keyAt s t i) ≡ true → i < t .count
   unfolding keyAt
   below-of key i h =
       by-test (i < t .count) (ltb i (t .count)) (λ e. ltb-true i (t .count) e)
       (λ e. absurd (never (sym (ap (has key) (left (keyIn s (entry s t i)) none e)) ∙ h)))
 
-  hit-index : (i : ℕ) (x : Entry) {j a n : ℕ} → hitOf i x ≡ hit.At j a n → i ≡ j
-  hit-index i (entries.At a n b m) e = cc
-  hit-index i entries.NoEntry e = let z : _≡_ {A = ℕ} 0 1 = cc in absurd (omega arith)
-
-  by-slot : (key : List ℕ) (x : ℕ) {i a n : ℕ} → (0 < x → Holds (keyAt s t) key x) → hitIn s t x ≡ hit.At i a n → Entered key i a n
+  by-slot : (key : List ℕ) (x : ℕ) {i a n : ℕ} → (0 < x → Holds (keyAt s t) key x) → hitIn s t x ≡ hit.At i a n → Entered s t key i a n
   by-slot key zero h e = let z : _≡_ {A = ℕ} 0 1 = cc in absurd (omega arith)
   by-slot key (suc j) {i} {a} {n} h e =
       let w : has key (keyAt s t j) ≡ true = h (omega arith) in
       let l : j < t .count = below-of key j w in
-      let z : j ≡ i = hit-index j (entry s t j) e in
-      rw (← z) (record { below = l; has-key = sym (has-below key j l) ∙ w; lies = e ∙ ap (λ (y : ℕ). hit.At y a n) (sym z) })
+      let k = keyed-told s t key j (sym (has-below key j l) ∙ w) in
+      let g : hit.At j (k .start) (k .len) ≡ hit.At i a n = sym (ap (hitOf j) (k .has .entry)) ∙ e in
+      let x : j ≡ i = cc in
+      let y : k .start ≡ a = cc in
+      let z : k .len ≡ n = cc in
+      rw (← x, ← y, ← z) (record { below = l; has = k .has })
 
-  pub any-slots : (slots key : List ℕ) {i start len : ℕ} → indexed s t slots key ≡ hit.At i start len → Entered key i start len
+  pub indexed-sound : (slots key : List ℕ) → Sound s t key (indexed s t slots key)
   unfolding indexed
-  any-slots slots key e = by-slot key (walk (keyAt s t) key slots) (walk-holds (keyAt s t) key slots) e
+  indexed-sound slots key = record { told = λ i start len e. by-slot key (walk (keyAt s t) key slots) (walk-holds (keyAt s t) key slots) e }
 
-  -- THE SAME of what the public functions promise: `find` in slots that `build` left answers as the scan, where enough were lent ..
-  pub found-as-scan : (lent key : List ℕ) → used (t .count) ≤ length lent → soughtIn s t (afterBuild s t lent) key ≡ sought (lastWith s t key)
-  unfolding soughtIn afterBuild
-  found-as-scan lent key h =
-      let e : afterBuild s t lent ≡ builtIn s t lent = taken (builtIn s t lent) lent (le-leb (used (t .count)) (length lent) h) in
-      let l : used (t .count) ≤ length (builtIn s t lent) =
-      omega (arith, length-append (index s t) (drop (used (t .count)) lent), index-length)
-      in
-      ap (λ (x : List ℕ). soughtIn s t x key) e ∙ taken (sought (indexedIn s t (builtIn s t lent) key)) soughts.TooFew (le-leb (used (t .count)) (length (builtIn s t lent)) l)
-      ∙ ap sought (built-as-scan lent key)
+  -- The same of slots that are lent: `find` in slots that `build` left answers as the scan ..
+  module _ (lent : List ℕ) (b : building s t (length lent) ≡ went.Built) where
+    enough : used (t .count) ≤ length lent
+    unfolding building
+    enough =
+        by-test (used (t .count) ≤ length lent) (leb (used (t .count)) (length lent)) (λ e. borrow.Author.Tests.leb-true (used (t .count)) (length lent) e)
+        (λ e. absurd (refused (eqb (length s) (t .length)) (leb (used (t .count)) (length lent)) e b))
+      where
+        refused : (u v : mathlib.Core.Bool.Bool) → v ≡ false
+            → elim u [ true ↦ elim v [ true ↦ went.Built | false ↦ went.TooFew ] | false ↦ went.StaleLength ] ≡ went.Built → ⊥
+        refused true true e f = never (sym e)
+        refused true false e f = let z : _≡_ {A = ℕ} 0 1 = cc in omega arith
+        refused false v e f = let z : _≡_ {A = ℕ} 0 1 = cc in omega arith
 
-  -- .. and in any slots what it finds is an entry with the key
-  pub found-has-key : (lent key : List ℕ) {i start len : ℕ} → soughtIn s t lent key ≡ soughts.At i start len → Entered key i start len
-  unfolding soughtIn
-  found-has-key lent key {i} {start} {len} e =
-      by-test (Entered key i start len) (leb (used (t .count)) (length lent))
-      (λ y. by-hit (indexedIn s t lent key) refl (sym (taken _ _ y) ∙ e))
-      (λ n. let f = sym (left (sought (indexedIn s t lent key)) soughts.TooFew n) ∙ e in absurd (let z : _≡_ {A = ℕ} 0 1 = cc in omega arith))
-    where
-      by-hit : (x : Hit) → indexedIn s t lent key ≡ x → sought x ≡ soughts.At i start len → Entered key i start len
-      by-hit (hit.At j a n) f g =
-          let p : j ≡ i = cc in
-          let q : a ≡ start = cc in
-          let r : n ≡ len = cc in
-          any-slots (take (used (t .count)) lent) key (f ∙ rw (p, q, r))
-      by-hit hit.Missing f g = absurd (let z : _≡_ {A = ℕ} 0 1 = cc in omega arith)
+    pub built-as-scan : (key : List ℕ) → soughtIn s t (leaves s t lent went.Built) key ≡ sought.Found (lastWith s t key)
+    unfolding soughtIn
+    built-as-scan key =
+        let l : used (t .count) ≤ length (leaves s t lent went.Built) =
+        omega (arith, length-append (index s t) (drop (used (t .count)) lent), index-length)
+        in
+        taken (sought.Found (indexed s t (take (used (t .count)) (leaves s t lent went.Built)) key)) sought.TooFew
+        (le-leb (used (t .count)) (length (leaves s t lent went.Built)) l)
+        ∙ ap (λ (x : List ℕ). sought.Found (indexed s t x key)) (take-at (index s t) (drop (used (t .count)) lent) (used (t .count)) index-length)
+        ∙ ap sought.Found (indexed-as-scan key)

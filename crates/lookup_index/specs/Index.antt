@@ -19,7 +19,7 @@ use Rattle.lookup_slots.specs.Slots.{built, walk}
 use Rattle.lookup_index.specs.declared.Sought.{Sought}
 use Rattle.lookup_index.specs.declared.Sought.the-variants as sought
 use Rattle.lookup_index.specs.declared.Building.{Building}
-use Rattle.lookup_index.specs.declared.Building.the-variants as building
+use Rattle.lookup_index.specs.declared.Building.the-variants as went
 
 -- the key of an entry of the file s
 abbrev pub keyIn : List ℕ → Entry → Option (List ℕ)
@@ -57,17 +57,17 @@ unfoldable pub building : List ℕ → Tables → ℕ → Building
 unfolding used
 building s t lent =
     elim (eqb (length s) (t .length)) [
-      | true ↦ elim (leb (used (t .count)) lent) [ true ↦ building.Built | false ↦ building.TooFew ]
-      | false ↦ building.StaleLength
+      | true ↦ elim (leb (used (t .count)) lent) [ true ↦ went.Built | false ↦ went.TooFew ]
+      | false ↦ went.StaleLength
     ]
 
 -- what it leaves in the slots lent: those that are not used stay, and after a refusal all of them
 abbrev pub leaves : List ℕ → Tables → List ℕ → Building → List ℕ
-leaves s t lent building.Built = index s t ++ drop (used (t .count)) lent
-leaves s t lent building.StaleLength = lent
-leaves s t lent building.TooFew = lent
+leaves s t lent went.Built = index s t ++ drop (used (t .count)) lent
+leaves s t lent went.StaleLength = lent
+leaves s t lent went.TooFew = lent
 
 abbrev pub number : Building → ℕ
-number building.Built = 0
-number building.StaleLength = numberOf error.BadRecord
-number building.TooFew = numberOf error.IndexRoom
+number went.Built = 0
+number went.StaleLength = numberOf error.BadRecord
+number went.TooFew = numberOf error.IndexRoom

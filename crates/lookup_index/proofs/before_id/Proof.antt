@@ -1,6 +1,6 @@
 -- Context and byte 4, or nothing. Assumes nothing.
 use borrow.Author.Tests.{not-true, not-false}
-use Rattle.lookup_index.proofs.Search.{hash-nothing, hash-context}
+use Rattle.lookup_index.proofs.Searched.{hash-nothing, hash-context}
 use borrow.Author.Needs.{needs}
 use Rattle.lookup_index.proofs.before_id.Statement.{statement}
 use Rattle.lookup_index.proofs.before_id.Tie as tie

@@ -1,5 +1,5 @@
 -- The key is taken part after part. Assumes nothing.
-use Rattle.lookup_index.proofs.Search.{hash-key}
+use Rattle.lookup_index.proofs.Searched.{hash-key}
 use borrow.Author.Needs.{needs}
 use Rattle.lookup_index.proofs.hash_of.Statement.{statement}
 use Rattle.lookup_index.proofs.hash_of.Tie as tie

@@ -1,5 +1,5 @@
 -- The low bits of the hash. Assumes nothing.
-use Rattle.lookup_index.proofs.Powers.{power-one, power-mask}
+use Rattle.lookup_index.proofs.Lent.{power-one, power-mask}
 use borrow.Author.Needs.{needs}
 use Rattle.lookup_index.proofs.home.Statement.{statement}
 use Rattle.lookup_index.proofs.home.Tie as tie

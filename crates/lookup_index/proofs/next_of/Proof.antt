@@ -1,5 +1,5 @@
 -- The next place, or the first. Assumes nothing.
-use Rattle.lookup_index.proofs.Search.{next-round, next-one}
+use Rattle.lookup_index.proofs.Searched.{next-round, next-one}
 use borrow.Author.Needs.{needs}
 use Rattle.lookup_index.proofs.next_of.Statement.{statement}
 use Rattle.lookup_index.proofs.next_of.Tie as tie

@@ -15,10 +15,10 @@ enum-told : tie.Need-enum-told
 enum-told c = search needs
 
 returns : tie.Need-returns
-returns c = put-none (c .before .before .before .before .before .args .file .now) (c .before .before .before .before .before .args .t) (c .before .before .before .before .before .args .i) (c .before .before .before .before .before .pre .0 .0) (c .before .before .entry-at .ensures) (c .before .before .before .before .before .args .slots .now) (c .enum-told .given .1)
+returns c = put-none _ _ _ (c .before .before .before .before .before .pre .0) (c .before .before .entry-at .ensures) _ (c .enum-told .given .1)
 
 add-end : tie.Need-add-end
-add-end c = omega (arith, key-inside (c .before .before .before .before .before .before .args .file .now) (c .before .before .before .before .before .before .args .t) (c .before .before .before .before .before .before .args .i) (c .before .before .before .before .before .before .pre .0 .0) (c .before .before .before .entry-at .ensures) (c .before .before .before .before .before .before .args .slots .now) (c .before .entry .given .1))
+add-end c = omega (arith, key-inside _ _ _ (c .before .before .before .before .before .before .pre .0) (c .before .before .before .entry-at .ensures) (c .before .before .before .before .before .before .args .slots .now) (c .before .entry .given .1))
 
 sub-key : tie.Need-sub-key
 sub-key c = search needs
@@ -27,10 +27,10 @@ part-key-start : tie.Need-part-key-start
 part-key-start c = search needs
 
 part-key-end : tie.Need-part-key-end
-part-key-end c = omega (arith, key-inside (c .before .before .before .before .before .before .args .file .now) (c .before .before .before .before .before .before .args .t) (c .before .before .before .before .before .before .args .i) (c .before .before .before .before .before .before .pre .0 .0) (c .before .before .before .entry-at .ensures) (c .before .before .before .before .before .before .args .slots .now) (c .before .entry .given .1))
+part-key-end c = omega (arith, key-inside _ _ _ (c .before .before .before .before .before .before .pre .0) (c .before .before .before .entry-at .ensures) (c .before .before .before .before .before .before .args .slots .now) (c .before .entry .given .1))
 
-find-place-requires : tie.Need-find-place-requires
-find-place-requires c κs = (key-length (c .before .before .before .before .before .before .before .before .args .file .now) (c .before .before .before .before .before .before .before .before .args .t) (c .before .before .before .before .before .before .before .before .args .i) (c .before .before .before .before .before .before .before .before .pre .0 .0) (c .before .before .before .before .before .entry-at .ensures) (c .before .before .before .before .before .before .before .before .args .slots .now) (c .before .before .before .entry .given .1), c .before .before .before .before .before .before .before .before .pre .1)
+search-requires : tie.Need-search-requires
+search-requires c κs = (key-length _ _ _ (c .before .before .before .before .before .before .before .before .pre .0) (c .before .before .before .before .before .entry-at .ensures) (c .before .before .before .before .before .before .before .before .args .slots .now) (c .before .before .before .entry .given .1), c .before .before .before .before .before .before .before .before .pre .1)
 
 add-narrow : tie.Need-add-narrow
 add-narrow c = search needs
@@ -48,13 +48,13 @@ same-length : tie.Need-same-length
 same-length c = search needs
 
 returns-2 : tie.Need-returns-2
-returns-2 c = put-at (c .before .before .before .before .before .before .before .before .before .before .before .args .file .now) (c .before .before .before .before .before .before .before .before .before .before .before .args .t) (c .before .before .before .before .before .before .before .before .before .before .before .args .i) (c .before .before .before .before .before .before .before .before .before .before .before .pre .0 .0) (c .before .before .before .before .before .before .before .before .entry-at .ensures) (c .before .before .before .before .before .before .before .before .before .before .before .args .slots .now) (c .before .before .before .before .before .before .entry .given .1) (c .before .before .find-place .ensures) (c .narrow .ensures)
+returns-2 c = put-at _ _ _ (c .before .before .before .before .before .before .before .before .before .before .before .pre .0) (c .before .before .before .before .before .before .before .before .entry-at .ensures) _ (c .before .before .before .before .before .before .entry .given .1) (c .before .before .search .ensures .place-is) (c .narrow .ensures)
 
 same-length-2 : tie.Need-same-length-2
 same-length-2 c = search needs
 
 returns-3 : tie.Need-returns-3
-returns-3 c = put-full (c .before .before .before .before .before .before .before .before .before .before .args .file .now) (c .before .before .before .before .before .before .before .before .before .before .args .t) (c .before .before .before .before .before .before .before .before .before .before .args .i) (c .before .before .before .before .before .before .before .before .before .before .pre .0 .0) (c .before .before .before .before .before .before .before .entry-at .ensures) (c .before .before .before .before .before .before .before .before .before .before .args .slots .now) (c .before .before .before .before .before .entry .given .1) (c .before .find-place .ensures) (c .if1 .left)
+returns-3 c = put-full _ _ _ (c .before .before .before .before .before .before .before .before .before .before .pre .0) (c .before .before .before .before .before .before .before .entry-at .ensures) _ (c .before .before .before .before .before .entry .given .1) (c .before .search .ensures .place-is) (c .if1 .left)
 
 pub put-spec : {M : Type 1} → statement M
 put-spec =
@@ -68,7 +68,7 @@ put-spec =
     sub-key
     part-key-start
     part-key-end
-    find-place-requires
+    search-requires
     add-narrow
     narrow-requires
     mul-slots

@@ -3,28 +3,29 @@ use Prim.Native.Nat.{ℕ, zero, suc, _+_, _-_, _*_, _%_, _<_, _≤_}
 use mathlib.Core.Path.{_≡_, refl, sym, ap, _∙_}
 use mathlib.Core.Bool.{Bool, true, false}
 use mathlib.Core.List.{List, [], _∷_, _++_, append-assoc}
-use mathlib.Core.Option.{Option, none, some}
 use native.Mathlib.Omega.{arith}
 use lib.ListN.{length, getD, List·getD-eq-default}
 use lib.Dec.{eqb}
 use borrow.Author.Tests.{eq-eqb, ne-eqb}
 use Rattle.text.proofs.Tests.{never, taken, left, by-test}
+use Rattle.container_layout.specs.Mo.{entry}
 use Rattle.container_layout.specs.declared.Entry.{Entry}
 use Rattle.container_layout.specs.declared.Entry.the-variants as entries
-use Rattle.lookup_scan.specs.Keys.{keyOf, isKey, hitOf, entry}
-use Rattle.lookup_scan.specs.Promise.{hitIf}
 use Rattle.container_layout.specs.declared.Tables.{Tables}
+use Rattle.lookup_scan.specs.Keys.{keyOf, isKey, hitOf}
+use Rattle.lookup_scan.specs.Promise.{hitIf}
 use Rattle.lookup_scan.specs.declared.Hit.{Hit}
 use Rattle.lookup_scan.specs.declared.Hit.the-variants as hit
-use Rattle.lookup_scan.proofs.Entries.{shorter}
+use Rattle.lookup_scan.proofs.Entries.{shorter, has-told}
 use Rattle.lookup_slots.specs.Hash.{hashFrom, hash}
 use Rattle.lookup_slots.specs.Promise.{Hashes}
 use Rattle.lookup_slots.specs.Slots.{next, first, has, stops, place, walk}
 use Rattle.lookup_slots.proofs.Hashed.{hash-joined}
-use Rattle.lookup_slots.proofs.First.{first-here, first-on, first-end, next-less}
+use Rattle.lookup_slots.proofs.First.{first-here, first-on, first-end}
 use Rattle.lookup_index.specs.Index.{keyAt, hitIn, indexed}
-use Rattle.lookup_index.specs.Private.{beforeId, Next, named}
-use Rattle.lookup_index.proofs.Answers.{key-above, has-below, below-of, any-slots}
+use Rattle.lookup_index.specs.Private.{beforeId, Next, named, Stops}
+use Rattle.lookup_index.specs.declared.Stop.{Stop}
+use Rattle.lookup_index.proofs.Answers.{key-above, has-below, below-of, indexed-sound}
 
 -- the hash of a key that is context, byte 4 and id, or the id only
 pub hash-nothing : (given : Bool) (c : List ℕ) → given ≡ false → Hashes 5381 (beforeId given c) 5381
@@ -77,15 +78,17 @@ module _ (s : List ℕ) (t : Tables) (key : List ℕ) where
     one-less : x ≡ suc (w - 1)
     one-less = omega arith
 
-    pub named-above : t .count ≤ w - 1 → hit.Missing ≡ named s t key x
-    named-above h = sym (ap (named s t key) one-less ∙ named-false (w - 1) (ap (has key) (key-above s t (w - 1) h)))
-
-    pub named-below : {h : Hit} → w - 1 < t .count → h ≡ hitIf s t key (w - 1) → h ≡ named s t key x
+    pub named-below : {h : Hit} → x ≤ t .count → h ≡ hitIf s t key (w - 1) → h ≡ named s t key x
     unfolding hitIf
-    named-below l f =
+    named-below o f =
+        let l : w - 1 < t .count = omega arith in
         f ∙ sym (ap (named s t key) one-less ∙ by-test (named s t key (suc (w - 1)) ≡ hitIf s t key (w - 1)) (isKey s key (entry s t (w - 1)))
         (λ y. named-true (w - 1) (has-below s t key (w - 1) l ∙ y) ∙ sym (taken _ _ y))
         (λ y. named-false (w - 1) (has-below s t key (w - 1) l ∙ y) ∙ sym (left (hitOf (w - 1) (entry s t (w - 1))) hit.Missing y)))
+
+  pub named-above : (x : ℕ) → t .count < x → hit.Missing ≡ named s t key x
+  named-above zero h = absurd (omega arith)
+  named-above (suc i) h = sym (named-false i (ap (has key) (key-above s t i (omega arith))))
 
   -- where it names one, the search stops, and where it does not, it goes on
   pub named-stops : (x : ℕ) {a b c : ℕ} → named s t key x ≡ hit.At a b c → stops (keyAt s t) key x ≡ true
@@ -107,78 +110,62 @@ module _ (s : List ℕ) (t : Tables) (key : List ℕ) where
       by-test (has key (keyAt s t i) ≡ false) (has key (keyAt s t i))
       (λ e. absurd (not-hit (entry s t i) i (sym (has-below s t key i (below-of s t key i e)) ∙ e) (sym (named-true i e) ∙ f))) (λ e. e)
 
-  -- the code's tests
-  module _ {h : Hit} (x : ℕ) (f : h ≡ named s t key x) where
-    pub stop-hit : {a b c : ℕ} → h ≡ hit.At a b c → true ≡ stops (keyAt s t) key x
-    stop-hit g = sym (named-stops x (sym f ∙ g))
-
-    pub stop-miss : (x ≡ 0 → ⊥) → h ≡ hit.Missing → false ≡ stops (keyAt s t) key x
-    stop-miss n g = sym (named-passed x n (sym f ∙ g))
-
 -- the search goes on from p, with so many slots left
-module _ (k : ℕ → Option (List ℕ)) (key slots : List ℕ) where
+module _ (s : List ℕ) (t : Tables) (slots key : List ℕ) where
+  -- the test of a place
+  abbrev at : ℕ → Bool
+  at q = stops (keyAt s t) key (getD slots q 0)
+
   pub record Searched (p n : ℕ) : Type 0 where
     pub inside : p < length slots
-    pub rest : place k key slots ≡ first (λ q. stops k key (getD slots q 0)) (length slots) n p
+    pub rest : place (keyAt s t) key slots ≡ first at (length slots) n p
 
   pub searched-first : {h p : ℕ} → h ≡ hash key → p ≡ h % length slots → p < length slots → Searched p (length slots)
   unfolding place
   searched-first {h} {p} e f l = record {
     inside = l;
-    rest = ap (λ (x : ℕ). first (λ q. stops k key (getD slots q 0)) (length slots) (length slots) x) (ap (λ (x : ℕ). x % length slots) (sym e) ∙ sym f);
+    rest = ap (first at (length slots) (length slots)) (ap (λ (x : ℕ). x % length slots) (sym e) ∙ sym f);
   }
 
-  module _ {p n : ℕ} (w : Searched p n) where
-    pub searched-end : n ≤ 0 → length slots ≡ place k key slots
-    searched-end h =
-        let z : n ≡ 0 = omega arith in
-        sym (w .rest ∙ ap (λ (x : ℕ). first (λ q. stops k key (getD slots q 0)) (length slots) x p) z ∙ first-end (λ q. stops k key (getD slots q 0)) (length slots) p)
-
-    one-more : 0 < n → place k key slots ≡ first (λ q. stops k key (getD slots q 0)) (length slots) (suc (n - 1)) p
-    one-more h = let z : n ≡ suc (n - 1) = omega arith in w .rest ∙ ap (λ (x : ℕ). first (λ q. stops k key (getD slots q 0)) (length slots) x p) z
-
-    module _ {r : Bool} (h : 0 < n) (e : r ≡ stops k key (getD slots p 0)) where
-      pub searched-here : r ≡ true → p ≡ place k key slots
-      searched-here f = sym (one-more h ∙ first-here (λ q. stops k key (getD slots q 0)) (length slots) (n - 1) p (sym e ∙ f))
-
-      pub searched-on : {q : ℕ} → r ≡ false → Next (length slots) p q → Searched q (n - 1)
-      searched-on {q} f g = record {
-        inside = g .inside;
-        rest =
-            one-more h ∙ first-on (λ q. stops k key (getD slots q 0)) (length slots) (n - 1) p (sym e ∙ f)
-            ∙ ap (λ (x : ℕ). first (λ q. stops k key (getD slots q 0)) (length slots) (n - 1) x) (sym (g .is));
-      }
-
--- the hit that the slot gives
-module _ (s : List ℕ) (t : Tables) (slots key : List ℕ) where
+  -- a key that is as long as the file has no entry
   pub hit-long : length s ≤ length key → hit.Missing ≡ indexed s t slots key
   hit-long h = by-hit (indexed s t slots key) refl
     where
       by-hit : (x : Hit) → indexed s t slots key ≡ x → hit.Missing ≡ indexed s t slots key
-      by-hit (hit.At i a n) e = absurd (omega (arith, shorter s t key i (any-slots s t slots key e .has-key)))
+      by-hit (hit.At i a n) e = absurd (omega (arith, shorter s t key i (has-told s t key i (indexed-sound s t slots key .told i a n e .has))))
       by-hit hit.Missing e = sym e
 
-  module _ {p : ℕ} (e : p ≡ place (keyAt s t) key slots) where
-    by-value : {x : ℕ} → getD slots p 0 ≡ x → hitIn s t x ≡ indexed s t slots key
-    unfolding indexed
-    by-value f = ap (hitIn s t) (sym f ∙ ap (λ (q : ℕ). getD slots q 0) e)
+  -- the hit is what the slot gives where the search stops
+  stopped : {p : ℕ} {h : Hit} → p ≡ place (keyAt s t) key slots → h ≡ hitIn s t (getD slots p 0) → Stops s t slots key (record { place = p; hit = h })
+  unfolding indexed
+  stopped e f = record { place-is = e; hit-is = f ∙ ap (λ (q : ℕ). hitIn s t (getD slots q 0)) e }
 
-    past : length slots ≤ p → hit.Missing ≡ indexed s t slots key
-    past h = by-value (List·getD-eq-default slots 0 h)
-
-  module _ {p n : ℕ} (w : Searched (keyAt s t) key slots p n) where
-    pub hit-end : n ≤ 0 → hit.Missing ≡ indexed s t slots key
-    hit-end h = past (searched-end (keyAt s t) key slots w h) (omega arith)
+  module _ {p n : ℕ} (w : Searched p n) where
+    pub stop-end : n ≤ 0 → Stops s t slots key (record { place = length slots; hit = hit.Missing })
+    stop-end h =
+        let z : n ≡ 0 = omega arith in
+        stopped (sym (w .rest ∙ ap (λ (x : ℕ). first at (length slots) x p) z ∙ first-end at (length slots) p))
+        (sym (ap (hitIn s t) (List·getD-eq-default slots 0 (omega arith))))
 
     module _ (l : 0 < n) where
-      pub hit-empty : getD slots p 0 ≡ 0 → hit.Missing ≡ indexed s t slots key
-      hit-empty f = by-value (searched-here (keyAt s t) key slots w l refl (ap (stops (keyAt s t) key) f)) f
+      one-more : place (keyAt s t) key slots ≡ first at (length slots) (suc (n - 1)) p
+      one-more = let z : n ≡ suc (n - 1) = omega arith in w .rest ∙ ap (λ (x : ℕ). first at (length slots) x p) z
+
+      here : at p ≡ true → p ≡ place (keyAt s t) key slots
+      here f = sym (one-more ∙ first-here at (length slots) (n - 1) p f)
+
+      pub stop-empty : getD slots p 0 ≡ 0 → Stops s t slots key (record { place = p; hit = hit.Missing })
+      stop-empty f = stopped (here (ap (stops (keyAt s t) key) f)) (sym (ap (hitIn s t) f))
 
       module _ {h : Hit} (f : h ≡ named s t key (getD slots p 0)) where
-        pub hit-named : {a b c : ℕ} → h ≡ hit.At a b c → hit.At a b c ≡ indexed s t slots key
-        hit-named g =
-            sym (named-is s t key (getD slots p 0) (sym f ∙ g))
-            ∙ by-value (searched-here (keyAt s t) key slots w l refl (named-stops s t key (getD slots p 0) (sym f ∙ g))) refl
+        pub stop-named : {a b c : ℕ} → h ≡ hit.At a b c → Stops s t slots key (record { place = p; hit = hit.At a b c })
+        stop-named g =
+            stopped (here (named-stops s t key (getD slots p 0) (sym f ∙ g))) (sym (named-is s t key (getD slots p 0) (sym f ∙ g)))
 
-        pub hit-passed : {q : ℕ} → (getD slots p 0 ≡ 0 → ⊥) → h ≡ hit.Missing → Next (length slots) p q → Searched (keyAt s t) key slots q (n - 1)
-        hit-passed z g x = searched-on (keyAt s t) key slots w l refl (named-passed s t key (getD slots p 0) z (sym f ∙ g)) x
+        pub searched-on : {q : ℕ} → (getD slots p 0 ≡ 0 → ⊥) → h ≡ hit.Missing → Next (length slots) p q → Searched q (n - 1)
+        searched-on {q} z g x = record {
+          inside = x .inside;
+          rest =
+              one-more ∙ first-on at (length slots) (n - 1) p (named-passed s t key (getD slots p 0) z (sym f ∙ g))
+              ∙ ap (first at (length slots) (n - 1)) (sym (x .is));
+        }
