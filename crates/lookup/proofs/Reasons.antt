@@ -1,18 +1,25 @@
 -- The reason, put together from the parts that the code finds. Assumes nothing.
+use Prim.{tt}
 use Prim.Native.Nat.{ℕ}
-use mathlib.Core.Path.{_≡_, sym, _∙_}
-use mathlib.Core.List.{List}
+use mathlib.Core.Path.{_≡_, refl, sym, ap, _∙_}
+use mathlib.Core.List.{List, [], _∷_}
 use lib.ListN.{length}
 use borrow.Author.Tests.{eq-eqb, ne-eqb}
+use denote.Enum.Declared.{tagOf}
+use types.Run.{OneOf, miss}
 use Rattle.promise.proofs.Told.{told}
 use Rattle.text.proofs.Tests.{taken, left}
 use Rattle.rules.specs.declared.Resolved.{Resolved}
+use Rattle.rules.specs.declared.Resolved.the-variants as resolved
+use Rattle.rules.proofs.Resolved.{the-type}
 use Rattle.container_layout.specs.Mo.{segment}
 use Rattle.container_layout.specs.declared.Tables.{Tables}
 use Rattle.container_layout.specs.declared.Stretch.{Stretch}
 use Rattle.lookup_scan.specs.declared.Hit.{Hit}
 use Rattle.lookup_scan.specs.declared.Hit.the-variants as hit
-use Rattle.lookup.specs.Lookup.{bySegment, byEntry, byRule, plural}
+use Rattle.lookup_index.specs.declared.Sought.{Sought}
+use Rattle.lookup_index.specs.declared.Sought.the-variants as sought
+use Rattle.lookup.specs.Lookup.{bySegment, byEntry, byRule, bySlots, plural, pluralIn}
 use Rattle.lookup.specs.declared.Reason.{Reason}
 use Rattle.lookup.specs.declared.Reason.the-variants.{StaleLength}
 
@@ -29,3 +36,30 @@ module _ (s : List ℕ) (t : Tables) (v : Resolved) (h : Hit) where
   pub by-rule : {u w : Resolved} {r : Reason} → length s ≡ t .length → u ≡ v → u ≡ w → r ≡ byRule s w h → r ≡ plural s t v h
   unfolding plural
   by-rule e f g k = k ∙ told (λ (x : Resolved). byRule s x h) (sym f ∙ g) ∙ sym (taken _ _ (eq-eqb (length s) (t .length) e))
+
+-- where the rule names no form, no key is sought
+no-form : (s : List ℕ) (v : Resolved) (h : Hit) → OneOf (1 ∷ 2 ∷ []) (tagOf the-type v) → byRule s v hit.Missing ≡ byRule s v h
+no-form s (resolved.Form form) h k = absurd (miss (1 ∷ 2 ∷ []) 0 tt k)
+no-form s resolved.ZeroModulus h k = refl
+no-form s resolved.NoTree h k = refl
+
+pub by-no-form : (s : List ℕ) (t : Tables) (v : Resolved) (h : Hit) {u : Resolved} {r : Reason} → length s ≡ t .length → u ≡ v
+    → OneOf (1 ∷ 2 ∷ []) (tagOf the-type u) → r ≡ byRule s u hit.Missing → r ≡ plural s t v h
+by-no-form s t v h {u} e f g k = by-rule s t v h e f refl (k ∙ no-form s u h g)
+
+-- by lent slots
+module _ (s : List ℕ) (t : Tables) (v : Resolved) (x : Sought) where
+  pub stale-in : (length s ≡ t .length → ⊥) → StaleLength ≡ pluralIn s t v x
+  unfolding pluralIn
+  stale-in e = sym (left _ _ (ne-eqb (length s) (t .length) e))
+
+  -- what the code has: the value u, and y, which was sought
+  pub by-slots : {u : Resolved} {y : Sought} {r : Reason} → length s ≡ t .length → u ≡ v → y ≡ x → r ≡ bySlots s u y → r ≡ pluralIn s t v x
+  unfolding pluralIn
+  by-slots {u} {y} e f g k =
+      k ∙ ap (λ (w : Resolved). bySlots s w y) f ∙ ap (bySlots s v) g ∙ sym (taken _ _ (eq-eqb (length s) (t .length) e))
+
+-- with enough slots, what follows from the entry that they name is what follows from it by whatever search
+pub found-in : (s : List ℕ) (t : Tables) (v : Resolved) (h : Hit) → pluralIn s t v (sought.Found h) ≡ plural s t v h
+unfolding plural pluralIn
+found-in s t v h = refl
