@@ -31,10 +31,13 @@ use Rattle.rules.specs.declared.Fit.the-variants as fit
 use Rattle.rules.proofs.Forms.{rated-forms}
 use Rattle.rules.proofs.Fits.{Ranged, fits-ranged}
 use Rattle.container_layout.specs.Mo.{segments}
+use Rattle.lookup_scan.specs.Keys.{lastWith}
 use Rattle.lookup_scan.proofs.Last.{Last, last-hit}
+use Rattle.lookup.specs.Lookup.{plural, number}
 use Rattle.lookup.specs.declared.Reason.{Reason}
 use Rattle.lookup.specs.declared.Reason.the-variants as reason
 use Rattle.lookup.proofs.Rated.{Names, rated-lookup}
+use Rattle.lookup.proofs.Indexed.{never-12}
 use Rattle.container.specs.Catalog.{Answer, accepted, refused, noTables, load, treeIn}
 use Rattle.container.specs.declared.Options.{Options}
 use Rattle.host.specs.Host.{tablesIn, nodesIn, rootIn, ownFor, answerOf, ratingOf, fitsOf}
@@ -67,7 +70,7 @@ use Rattle.gettext_c.proofs.gettext_c_is_utf8.Kinds as is-utf8-kinds
 
 -- 1. No input stops the host. No function asks anything of its caller: `Pre` is what it requires, as the check reads it from the source.
 -- That it ends, and touches nothing outside what is lent to it, is what the check proves of every function.
-abbrev AsksNothing : (n : ℕ) (ps : List (PK n)) → In n ps → Type 0
+abbrev pub AsksNothing : (n : ℕ) (ps : List (PK n)) → In n ps → Type 0
 AsksNothing n ps Pre = (κs : Lfts n) (a : Dens κs ps) → Pre κs a
 
 pub nothing-asked : AsksNothing 3 empty-kinds.ps empty.Pre × AsksNothing 4 load-kinds.ps load-reads.Pre × AsksNothing 1 gettext-kinds.ps gettext.Pre
@@ -89,13 +92,21 @@ pub data Refused : ℕ → Type 0 where
   zero-modulus : Refused (numberOf error.ZeroModulus)
   bad-record : Refused (numberOf error.BadRecord)
 
-pub refused-lookup : (own : ℕ) (a : Reason) → (answerOf own a .number ≡ 0 → ⊥) → (answerOf own a .which ≡ own) × Refused (answerOf own a .number)
-refused-lookup own reason.StaleLength n = (refl, bad-record)
-refused-lookup own reason.NoTree n = (refl, bad-record)
-refused-lookup own reason.ZeroModulus n = (refl, zero-modulus)
-refused-lookup own reason.NoEntry n = absurd (n refl)
-refused-lookup own (reason.TooFewSegments i) n = absurd (n refl)
-refused-lookup own (reason.Answered i form start len) n = absurd (n refl)
+refused-number : (own : ℕ) (a : Reason) → (number a ≡ number reason.IndexRoom → ⊥) → (answerOf own a .number ≡ 0 → ⊥) → (answerOf own a .which ≡ own) × Refused (answerOf own a .number)
+refused-number own reason.StaleLength i n = (refl, bad-record)
+refused-number own reason.NoTree i n = (refl, bad-record)
+refused-number own reason.IndexRoom i n = absurd (i refl)
+refused-number own reason.ZeroModulus i n = (refl, zero-modulus)
+refused-number own reason.NoEntry i n = absurd (n refl)
+refused-number own (reason.TooFewSegments j) i n = absurd (n refl)
+refused-number own (reason.Answered j form start len) i n = absurd (n refl)
+
+-- the rule's value is v, form 0 for a lookup without a count
+pub refused-lookup : (s h key : List ℕ) (v : Resolved) (own : ℕ) → (answerOf own (plural s (tablesIn h) v (lastWith s (tablesIn h) key)) .number ≡ 0 → ⊥)
+    → (answerOf own (plural s (tablesIn h) v (lastWith s (tablesIn h) key)) .which ≡ own)
+    × Refused (answerOf own (plural s (tablesIn h) v (lastWith s (tablesIn h) key)) .number)
+refused-lookup s h key v own n =
+    refused-number own (plural s (tablesIn h) v (lastWith s (tablesIn h) key)) (never-12 s (tablesIn h) v (lastWith s (tablesIn h) key)) n
 
 -- 3. The rule that was loaded, at a count: it takes no remainder by zero, and yields a form from lo to hi, so below k; that is what the
 -- function `gettext_c_resolve` tells.
@@ -139,7 +150,7 @@ module _ (o : Options) (f s : List ℕ) {Q : Pool} {r : Loaded} (loads : Loads (
     pub answers : (key : List ℕ) (i start len : ℕ) → Last s (tablesIn (r .head)) key (tablesIn (r .head) .count) i start len → k ≤ length (segments s start len)
         → IsSegment s i start len (yields .form) (answerOf (ownFor n) (counted s (r .head) Q key n))
 
-  abbrev range : Rated
+  abbrev pub range : Rated
   range = ratedOf Q (nodesIn (r .head)) (rootIn (r .head))
 
   kept : {lo hi : ℕ} → range ≡ rated.Range lo hi → (k : ℕ) → hi < k → (n : ℕ) → n < 2 ^ 64 → Kept lo hi k n
@@ -154,9 +165,9 @@ module _ (o : Options) (f s : List ℕ) {Q : Pool} {r : Loaded} (loads : Loads (
           below = omega (arith, v .high);
         };
         answers = λ key i start len w m.
-        let a = rated-lookup s (tablesIn (r .head)) Q (nodesIn (r .head)) (rootIn (r .head)) key lo hi k n is below count (fresh-length o f s loads number-0)
-        (last-hit s (tablesIn (r .head)) key w) m in
-        named (v .is) a;
+            let a = rated-lookup s (tablesIn (r .head)) Q (nodesIn (r .head)) (rootIn (r .head)) key lo hi k n is below count (fresh-length o f s loads number-0)
+            (last-hit s (tablesIn (r .head)) key w) m in
+            named (v .is) a;
       }
     where
       same-form : {x y : ℕ} {u : Resolved} → u ≡ resolved.Form x → u ≡ resolved.Form y → y ≡ x

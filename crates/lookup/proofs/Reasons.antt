@@ -15,11 +15,11 @@ use Rattle.rules.proofs.Resolved.{the-type}
 use Rattle.container_layout.specs.Mo.{segment}
 use Rattle.container_layout.specs.declared.Tables.{Tables}
 use Rattle.container_layout.specs.declared.Stretch.{Stretch}
+use Rattle.container_layout.specs.declared.Stretch.the-variants as stretch
 use Rattle.lookup_scan.specs.declared.Hit.{Hit}
 use Rattle.lookup_scan.specs.declared.Hit.the-variants as hit
 use Rattle.lookup_index.specs.declared.Sought.{Sought}
-use Rattle.lookup_index.specs.declared.Sought.the-variants as sought
-use Rattle.lookup.specs.Lookup.{bySegment, byEntry, byRule, bySlots, plural, pluralIn}
+use Rattle.lookup.specs.Lookup.{bySegment, byEntry, byRule, bySlots, plural, pluralIn, number}
 use Rattle.lookup.specs.declared.Reason.{Reason}
 use Rattle.lookup.specs.declared.Reason.the-variants.{StaleLength}
 
@@ -59,7 +59,11 @@ module _ (s : List ℕ) (t : Tables) (v : Resolved) (x : Sought) where
   by-slots {u} {y} e f g k =
       k ∙ ap (λ (w : Resolved). bySlots s w y) f ∙ ap (bySlots s v) g ∙ sym (taken _ _ (eq-eqb (length s) (t .length) e))
 
--- with enough slots, what follows from the entry that they name is what follows from it by whatever search
-pub found-in : (s : List ℕ) (t : Tables) (v : Resolved) (h : Hit) → pluralIn s t v (sought.Found h) ≡ plural s t v h
-unfolding plural pluralIn
-found-in s t v h = refl
+-- an entry changes the text, and no number
+by-segment-0 : (i form : ℕ) (x : Stretch) → number (bySegment i form x) ≡ 0
+by-segment-0 i form (stretch.At start len) = refl
+by-segment-0 i form stretch.Outside = refl
+
+pub by-entry-0 : (s : List ℕ) (form : ℕ) (h : Hit) → number (byEntry s form h) ≡ 0
+by-entry-0 s form (hit.At i start len) = by-segment-0 i form (segment s start len form)
+by-entry-0 s form hit.Missing = refl

@@ -1,14 +1,14 @@
 -- A lookup by the index answers as the scan does, and in any slots an entry with the key. Assumes nothing.
 use Prim.Native.Nat.{ℕ, zero, suc, _<_, _≤_}
 use mathlib.Core.Path.{_≡_, refl, sym, ap, _∙_}
-use mathlib.Core.Bool.{true, false}
+use mathlib.Core.Bool.{Bool, true, false}
 use mathlib.Core.List.{List, _++_}
 use mathlib.Core.Option.{none}
 use native.Mathlib.Omega.{arith}
 use lib.ListN.{length, take, drop, length-append}
 use lib.Seq.{take-at}
 use lib.Dec.{eqb, ltb, leb}
-use borrow.Author.Tests.{ltb-true, lt-ltb, le-ltb, le-leb}
+use borrow.Author.Tests.{eq-eqb, ltb-true, lt-ltb, le-ltb, leb-true, le-leb}
 use Rattle.text.proofs.Tests.{never, taken, left, by-test}
 use Rattle.container_layout.specs.Mo.{entry}
 use Rattle.container_layout.specs.declared.Entry.{Entry}
@@ -88,15 +88,20 @@ module _ (s : List ℕ) (t : Tables) where
   unfolding indexed
   indexed-sound slots key = record { told = λ i start len e. by-slot key (walk (keyAt s t) key slots) (walk-holds (keyAt s t) key slots) e }
 
-  -- The same of slots that are lent: `find` in slots that `build` left answers as the scan ..
+  -- building succeeds where the length is the record's and enough slots are lent
+  pub built-exactly : (lent : ℕ) → length s ≡ t .length → used (t .count) ≤ lent → building s t lent ≡ went.Built
+  unfolding building
+  built-exactly lent e l = taken _ _ (eq-eqb (length s) (t .length) e) ∙ taken _ _ (le-leb (used (t .count)) lent l)
+
+  -- The same of slots that are lent: `find` in slots that `build` left answers as the scan
   module _ (lent : List ℕ) (b : building s t (length lent) ≡ went.Built) where
     enough : used (t .count) ≤ length lent
     unfolding building
     enough =
-        by-test (used (t .count) ≤ length lent) (leb (used (t .count)) (length lent)) (λ e. borrow.Author.Tests.leb-true (used (t .count)) (length lent) e)
+        by-test (used (t .count) ≤ length lent) (leb (used (t .count)) (length lent)) (λ e. leb-true (used (t .count)) (length lent) e)
         (λ e. absurd (refused (eqb (length s) (t .length)) (leb (used (t .count)) (length lent)) e b))
       where
-        refused : (u v : mathlib.Core.Bool.Bool) → v ≡ false
+        refused : (u v : Bool) → v ≡ false
             → elim u [ true ↦ elim v [ true ↦ went.Built | false ↦ went.TooFew ] | false ↦ went.StaleLength ] ≡ went.Built → ⊥
         refused true true e f = never (sym e)
         refused true false e f = let z : _≡_ {A = ℕ} 0 1 = cc in omega arith
