@@ -19,9 +19,9 @@ use Rattle.container_layout.specs.declared.Stretch.the-variants as stretch
 use Rattle.lookup_scan.specs.declared.Hit.{Hit}
 use Rattle.lookup_scan.specs.declared.Hit.the-variants as hit
 use Rattle.lookup_index.specs.declared.Sought.{Sought}
-use Rattle.lookup.specs.Lookup.{bySegment, byEntry, byRule, bySlots, plural, pluralIn, number}
+use Rattle.lookup.specs.Lookup.{bySegment, byEntry, byRule, fewSlots, bySlots, plural, pluralIn, number}
 use Rattle.lookup.specs.declared.Reason.{Reason}
-use Rattle.lookup.specs.declared.Reason.the-variants.{StaleLength}
+use Rattle.lookup.specs.declared.Reason.the-variants.{StaleLength, IndexRoom}
 
 pub by-segment : (s : List ℕ) (form : ℕ) {h : Hit} {i start len : ℕ} {x y : Stretch} → h ≡ hit.At i start len → x ≡ segment s start len form → x ≡ y
     → bySegment i form y ≡ byEntry s form h
@@ -46,6 +46,12 @@ no-form s resolved.NoTree h k = refl
 pub by-no-form : (s : List ℕ) (t : Tables) (v : Resolved) (h : Hit) {u : Resolved} {r : Reason} → length s ≡ t .length → u ≡ v
     → OneOf (1 ∷ 2 ∷ []) (tagOf the-type u) → r ≡ byRule s u hit.Missing → r ≡ plural s t v h
 by-no-form s t v h {u} e f g k = by-rule s t v h e f refl (k ∙ no-form s u h g)
+
+-- too few slots, where the nodes are a tree
+pub some-tree : (v : Resolved) → OneOf (0 ∷ 1 ∷ []) (tagOf the-type v) → IndexRoom ≡ fewSlots v
+some-tree (resolved.Form form) k = refl
+some-tree resolved.ZeroModulus k = refl
+some-tree resolved.NoTree k = absurd (miss (0 ∷ 1 ∷ []) 2 tt k)
 
 -- by lent slots
 module _ (s : List ℕ) (t : Tables) (v : Resolved) (x : Sought) where

@@ -63,11 +63,10 @@ fn by_rule(file: &[u8], value: Resolved, hit: Hit) -> Reason
 fn few_slots(value: Resolved) -> Reason
     ensures { λ r. ⌜ r ≡ fewSlots value ⌝ }
 {
-    match value {
-        Resolved::Form(form) => Reason::IndexRoom,
-        Resolved::ZeroModulus => Reason::IndexRoom,
-        Resolved::NoTree => Reason::NoTree,
+    if let Resolved::NoTree = value {
+        return Reason::NoTree;
     }
+    Reason::IndexRoom
 }
 
 // The same as `by_rule`, of what was sought in lent slots.
