@@ -37,6 +37,11 @@ module _ (s : List ℕ) (t : Tables) (v : Resolved) (h : Hit) where
   unfolding plural
   by-rule e f g k = k ∙ told (λ (x : Resolved). byRule s x h) (sym f ∙ g) ∙ sym (taken _ _ (eq-eqb (length s) (t .length) e))
 
+  -- the hit is g, as the code has it
+  pub by-form : {u : Resolved} {form : ℕ} {g : Hit} {r : Reason} → length s ≡ t .length → u ≡ v → u ≡ resolved.Form form → g ≡ h → r ≡ byRule s (resolved.Form form) g
+      → r ≡ plural s t v h
+  by-form {form = form} e f k m n = by-rule e f k (n ∙ ap (byRule s (resolved.Form form)) m)
+
 -- where the rule names no form, no key is sought
 no-form : (s : List ℕ) (v : Resolved) (h : Hit) → OneOf (1 ∷ 2 ∷ []) (tagOf the-type v) → byRule s v hit.Missing ≡ byRule s v h
 no-form s (resolved.Form form) h k = absurd (miss (1 ∷ 2 ∷ []) 0 tt k)

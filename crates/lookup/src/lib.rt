@@ -115,7 +115,7 @@ pub fn nfind<'a, 'b>(
         return by_rule(file, resolved, Hit::Missing);
     };
     let hit = lookup_scan::last_hit(file, t, given, context, id);
-    by_entry(file, hit, form)
+    by_rule(file, Resolved::Form(form), hit)
 }
 
 // A lookup without a count in lent slots.

@@ -1,7 +1,6 @@
 -- The length is tested, then the rule's value decides; a form is sought in the last entry with the key. Assumes nothing.
-use mathlib.Core.Path.{refl, sym, ap, _∙_}
-use Rattle.lookup.specs.Lookup.{byEntry}
-use Rattle.lookup.proofs.Reasons.{stale, by-rule, by-no-form}
+use mathlib.Core.Path.{sym}
+use Rattle.lookup.proofs.Reasons.{stale, by-no-form, by-form}
 use borrow.Author.Needs.{needs}
 use Rattle.lookup.proofs.nfind.Statement.{statement}
 use Rattle.lookup.proofs.nfind.Tie as tie
@@ -24,11 +23,11 @@ returns-2 c = by-no-form _ _ _ _ (sym (c .before .before .before .if1 .left)) (c
 last-hit-requires : tie.Need-last-hit-requires
 last-hit-requires c κs = search needs
 
-by-entry-requires : tie.Need-by-entry-requires
-by-entry-requires c κs = search needs
+by-rule-requires-2 : tie.Need-by-rule-requires-2
+by-rule-requires-2 c κs = search needs
 
 returns-3 : tie.Need-returns-3
-returns-3 c = by-rule _ _ _ _ (sym (c .before .before .before .before .before .before .if1 .left)) (c .before .before .before .before .before .resolve .ensures) (c .before .before .before .resolved .given .1) (c .by-entry .ensures ∙ ap (byEntry (c .before .before .before .before .before .before .before .before .before .before .before .args .file .now) _) (c .before .last-hit .ensures))
+returns-3 c = by-form _ _ _ _ (sym (c .before .before .before .before .before .before .if1 .left)) (c .before .before .before .before .before .resolve .ensures) (c .before .before .before .resolved .given .1) (c .before .last-hit .ensures) (c .by-rule2 .ensures)
 
 pub nfind-spec : {M : Type 1} → statement M
 nfind-spec =
@@ -40,5 +39,5 @@ nfind-spec =
     by-rule-requires
     returns-2
     last-hit-requires
-    by-entry-requires
+    by-rule-requires-2
     returns-3)
