@@ -51,11 +51,13 @@ pub struct Catalog<B = Vec<u8>, S = Scan> {
 
 impl<B: Bytes, S: Search> fmt::Debug for Catalog<B, S> {
     fn fmt(&self, f: &mut fmt::Formatter<'_>) -> fmt::Result {
-        f.debug_struct("Catalog")
-            .field("bytes", &self.file.bytes().len())
-            .field("entries", &self.len())
-            .field("slots", &self.search.slots().map(<[u32]>::len))
-            .finish_non_exhaustive()
+        let mut said = f.debug_struct("Catalog");
+        said.field("bytes", &self.file.bytes().len());
+        said.field("entries", &self.len());
+        if let Some(slots) = self.search.slots() {
+            said.field("slots", &slots.len());
+        }
+        said.finish_non_exhaustive()
     }
 }
 
