@@ -68,6 +68,11 @@ fn sentence(i: usize) -> String {
 
 /// A catalog of n messages and a header with the rule; every message has three forms.
 pub fn generated(n: usize, rule: &str) -> (Vec<Message>, Vec<u8>) {
+    in_context("", n, rule)
+}
+
+/// The same, each message in a context, with its byte 4.
+pub fn in_context(context: &str, n: usize, rule: &str) -> (Vec<Message>, Vec<u8>) {
     let mut messages: Vec<Message> = (0..n)
         .map(|i| Message {
             id: sentence(i),
@@ -77,7 +82,7 @@ pub fn generated(n: usize, rule: &str) -> (Vec<Message>, Vec<u8>) {
     messages.sort_by(|a, b| a.id.cmp(&b.id));
     let header = format!("Content-Type: text/plain; charset=UTF-8\nPlural-Forms: nplurals=3; plural={rule};\n");
     let pairs: Vec<(Vec<u8>, &str)> = std::iter::once((Vec::new(), &header[..]))
-        .chain(messages.iter().map(|m| (format!("{}\0many", m.id).into_bytes(), &m.translation[..])))
+        .chain(messages.iter().map(|m| (format!("{context}{}\0many", m.id).into_bytes(), &m.translation[..])))
         .collect();
     let count = pairs.len();
     let mut file = vec![0; 28 + 16 * count];

@@ -16,7 +16,7 @@ mod files;
 mod glibc;
 mod plot;
 
-use files::{generated, real, Message};
+use files::{generated, in_context, real, Message};
 
 #[global_allocator]
 static COUNTING: count::Counting = count::Counting;
@@ -170,6 +170,56 @@ fn lookup(rows: &mut Vec<Row>, scratch: &Path) {
     }
 }
 
+/// Lookups by an index beside the crate's hash map and glibc, and building one beside the load of the same catalog.
+fn index(rows: &mut Vec<Row>, scratch: &Path) {
+    for n in [100, 1000, 9000] {
+        let (messages, file) = generated(n, RUSSIAN);
+        let (_, apart) = in_context("menu\u{4}", n, RUSSIAN);
+        let ours = gettext_rattle::Catalog::parse_slice(&file).expect("it loads").indexed();
+        let ours_apart = gettext_rattle::Catalog::parse_slice(&apart).expect("it loads").indexed();
+        let other = gettext::Catalog::parse(&file[..]).expect("it loads");
+        let other_apart = gettext::Catalog::parse(&apart[..]).expect("it loads");
+        let absent: Vec<String> = messages.iter().map(|m| format!("{}?", m.id)).collect();
+        let order = shuffled(n);
+        let (id, none) = (|k: usize| black_box(&messages[order[k % n]].id[..]), |k: usize| black_box(&absent[order[k % n]][..]));
+        for k in 0..n {
+            assert_eq!(ours.ngettext(id(k), "many", 5), other.ngettext(id(k), "many", 5));
+            assert_eq!(ours_apart.pgettext("menu", id(k)), other_apart.pgettext("menu", id(k)));
+            assert_eq!(ours.gettext(none(k)), none(k));
+        }
+        let times = 40_000;
+        let mut row = |name: &str, mine: &mut dyn FnMut(usize), theirs: &mut dyn FnMut(usize)| {
+            let each = race(15, [&mut || (0..times).for_each(&mut *mine), &mut || (0..times).for_each(&mut *theirs)]);
+            let [mine, theirs] = each.map(|seconds| seconds / times as f64 * 1e9);
+            rows.push(faster("index", format!("{name}, {n} entries"), "ns", mine, theirs, "crate"));
+            mine
+        };
+        let hit = row("hit", &mut |k| keep(ours.gettext(id(k))), &mut |k| keep(other.gettext(id(k))));
+        row("miss", &mut |k| keep(ours.gettext(none(k))), &mut |k| keep(other.gettext(none(k))));
+        row("hit in a context", &mut |k| keep(ours_apart.pgettext("menu", id(k))), &mut |k| keep(other_apart.pgettext("menu", id(k))));
+        row("miss in a context", &mut |k| keep(ours_apart.pgettext("menu", none(k))), &mut |k| keep(other_apart.pgettext("menu", none(k))));
+        row("plural hit", &mut |k| keep(ours.ngettext(id(k), "many", k as u64)), &mut |k| keep(other.ngettext(id(k), "many", k as u64)));
+        row("plural miss", &mut |k| keep(ours.ngettext(none(k), "many", k as u64)), &mut |k| keep(other.ngettext(none(k), "many", k as u64)));
+        if let Some(domain) = glibc::Domain::open(scratch, n, &file, &messages[0]) {
+            let ids: Vec<_> = messages.iter().map(|m| glibc::text(&m.id)).collect();
+            let theirs = nanoseconds(20_000, |k| keep(domain.gettext(&ids[order[k % n]])));
+            rows.push(faster("index", format!("hit, {n} entries"), "ns", hit, theirs, "glibc"));
+        }
+        let mut record = ffi::blank();
+        ffi::load(&file, None, false, false, &mut record);
+        let mut slots = vec![0; ffi::slots(&record)];
+        let [load, build] = race(
+            25,
+            [
+                &mut || keep(ffi::load(black_box(&file), None, false, false, &mut ffi::blank())),
+                &mut || keep(ffi::index(black_box(&file), &record, &mut slots)),
+            ],
+        )
+        .map(|seconds| seconds * 1e9);
+        rows.push(faster("index", format!("building, {n} entries"), "ns", build, load, "our load"));
+    }
+}
+
 /// The largest number of entries at which a scan is not slower than the crate's hash map.
 fn crossover() -> BTreeMap<&'static str, usize> {
     let mut most = BTreeMap::from([("hit", 0), ("miss", 0), ("plural hit", 0), ("plural miss", 0)]);
@@ -271,6 +321,7 @@ fn main() {
     utf8(&mut rows, &files);
     evaluation(&mut rows);
     lookup(&mut rows, Path::new(scratch));
+    index(&mut rows, Path::new(scratch));
     let most = crossover();
     print!("{}", table(&rows, &most));
     fs::write(Path::new(out).join("bench.csv"), csv(&rows)).expect("the CSV is written");

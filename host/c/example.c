@@ -45,7 +45,14 @@ int main(int argc, char **argv)
     for (uint64_t n = 0; n < 4; n++) {
         print_count(gr_ngettext(file, size, &catalog, "%d page", "%d pages", n), n);
     }
-    gr_text may = gr_pgettext(file, size, &catalog, "month", "May");
+    /* an index beside the catalog: lookups with it answer the same, and faster where there are many entries */
+    static uint32_t slots[1024];
+    number = gr_index(file, size, &catalog, slots, 1024);
+    if (number != GR_OK) {
+        fprintf(stderr, "no index: %s, %zu wanted\n", gr_error_name(number), gr_slots(&catalog));
+        return 1;
+    }
+    gr_text may = gr_pgettext_indexed(file, size, &catalog, slots, 1024, "month", "May");
     printf("%.*s\n", (int)may.len, may.text);
     return 0;
 }

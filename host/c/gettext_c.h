@@ -3,13 +3,14 @@
  * C99 or later, and C++11 or later.
  *
  * Ownership. The caller owns everything. The file's bytes are lent for the time of a call; a load writes the record that it is given,
- * and no other call writes anything. The library keeps no pointer and allocates nothing. The record is a plain value: it may be copied,
+ * building an index writes the slots that it is given, and no other call writes anything. The library keeps no pointer and allocates nothing. The record is a plain value: it may be copied,
  * stored, sent to another process. A lookup answers with a part of the file or one of the caller's own texts; a text lives as long as
  * what it is a part of.
  *
  * Threads. The library has no state. Any calls may run at the same time.
  *
- * Input. Every value has an answer: any bytes as file, any record (altered, or of another file), any rule, any key and any count. In the
+ * Input. Every value has an answer: any bytes as file, any record and any slots (altered, or of another file), any rule, any key and any
+ * count. In the
  * gr_ functions a null text is the empty text, and a null file is one of no bytes. A record that is given by pointer is not null.
  *
  * The contract of each function is in crates/gettext_c/src/lib.rt.
@@ -28,7 +29,8 @@ extern "C" {
 #define GR_VERSION "0.2.0"
 #define GR_VERSION_NUMBER 200 /* 10000 * major + 100 * minor + patch */
 
-/* 1 to 8 come from a load and refuse the file; 10 and 11 come from a lookup, whose answer is then the caller's own text. 9 is not given. */
+/* 1 to 8 come from a load and refuse the file; 10 to 12 come from a lookup, whose answer is then the caller's own text, 11 and 12 also from
+ * building an index. 9 is not given. */
 enum gr_number {
     GR_OK = 0,
     GR_EOF = 1,                /* the file ends before something that it names */
@@ -40,7 +42,8 @@ enum gr_number {
     GR_UNKNOWN_ENCODING = 7,   /* the header's charset is not UTF-8 */
     GR_RULE_TOO_LONG = 8,      /* the plural rule has over 512 bytes */
     GR_ZERO_MODULUS = 10,      /* the plural rule takes a remainder by zero at this count */
-    GR_BAD_RECORD = 11         /* the file has another length than the record says, or its rule is no tree */
+    GR_BAD_RECORD = 11,        /* the file has another length than the record says, or its rule is no tree */
+    GR_INDEX_ROOM = 12         /* fewer slots are lent than the index uses */
 };
 
 /* Which text answers a lookup. */
@@ -142,6 +145,18 @@ gr_answer gettext_c_ngettext(const uint8_t *file, size_t file_len, const gr_head
 gr_answer gettext_c_npgettext(const uint8_t *file, size_t file_len, const gr_head *head, const uint8_t codes[512],
                               const uint16_t places[1024], const uint64_t values[512], const uint8_t *context, size_t context_len,
                               const uint8_t *id, size_t id_len, uint64_t n);
+size_t gettext_c_slots(const gr_head *head);
+uint32_t gettext_c_index(const uint8_t *file, size_t file_len, const gr_head *head, uint32_t *slots, size_t slots_len);
+gr_answer gettext_c_gettext_indexed(const uint8_t *file, size_t file_len, const gr_head *head, const uint32_t *slots, size_t slots_len,
+                                    const uint8_t *id, size_t id_len);
+gr_answer gettext_c_pgettext_indexed(const uint8_t *file, size_t file_len, const gr_head *head, const uint32_t *slots, size_t slots_len,
+                                     const uint8_t *context, size_t context_len, const uint8_t *id, size_t id_len);
+gr_answer gettext_c_ngettext_indexed(const uint8_t *file, size_t file_len, const gr_head *head, const uint32_t *slots, size_t slots_len,
+                                     const uint8_t codes[512], const uint16_t places[1024], const uint64_t values[512], const uint8_t *id,
+                                     size_t id_len, uint64_t n);
+gr_answer gettext_c_npgettext_indexed(const uint8_t *file, size_t file_len, const gr_head *head, const uint32_t *slots, size_t slots_len,
+                                      const uint8_t codes[512], const uint16_t places[1024], const uint64_t values[512],
+                                      const uint8_t *context, size_t context_len, const uint8_t *id, size_t id_len, uint64_t n);
 gr_range gettext_c_rating(const gr_head *head, const uint8_t codes[512], const uint16_t places[1024], const uint64_t values[512]);
 gr_fit gettext_c_fits(const gr_head *head, const uint8_t codes[512], const uint16_t places[1024], const uint64_t values[512], uint64_t k);
 gr_form gettext_c_resolve(const gr_head *head, const uint8_t codes[512], const uint16_t places[1024], const uint64_t values[512],
@@ -181,6 +196,7 @@ static inline const char *gr_error_name(uint32_t number)
     case GR_RULE_TOO_LONG: return "plural expression over 512 bytes";
     case GR_ZERO_MODULUS: return "the plural expression divides by zero";
     case GR_BAD_RECORD: return "the record does not belong to the file";
+    case GR_INDEX_ROOM: return "too few slots for the index";
     default: return "no such number";
     }
 }
@@ -262,6 +278,63 @@ static inline gr_text gr_npgettext(const void *file, size_t file_len, const gr_r
 {
     gr_answer a = gettext_c_npgettext(gr_bytes(file), gr_size(file, file_len), &r->head, r->codes, r->places, r->values,
                                       gr_bytes(context), gr_length(context), gr_bytes(id), gr_length(id), n);
+    return gr_text_of(a, file, id, plural_id);
+}
+
+/*
+ * An index beside the catalog, for files of many entries: slots that the caller owns, of which gr_slots says how many are used. gr_index
+ * builds it, and answers GR_OK, GR_BAD_RECORD or, exactly where fewer are lent, GR_INDEX_ROOM; a refusal writes none, and slots behind
+ * those that are used stay as they are. The lookups then take the slots beside the record, and answer as those above. Slots that were
+ * altered, or built from another file, do no harm: a text that is found is then still one of an entry with the key. Null slots are none.
+ */
+static inline size_t gr_slots(const gr_record *r)
+{
+    return gettext_c_slots(&r->head);
+}
+
+/* No slots, where a pointer is null. */
+static inline const uint32_t *gr_none(const uint32_t *slots)
+{
+    static const uint32_t none = 0;
+    return slots != NULL ? slots : &none;
+}
+
+static inline uint32_t gr_index(const void *file, size_t file_len, const gr_record *r, uint32_t *slots, size_t slots_len)
+{
+    uint32_t none = 0;
+    return gettext_c_index(gr_bytes(file), gr_size(file, file_len), &r->head, slots != NULL ? slots : &none, gr_size(slots, slots_len));
+}
+
+static inline gr_text gr_gettext_indexed(const void *file, size_t file_len, const gr_record *r, const uint32_t *slots, size_t slots_len,
+                                         const char *id)
+{
+    gr_answer a = gettext_c_gettext_indexed(gr_bytes(file), gr_size(file, file_len), &r->head, gr_none(slots), gr_size(slots, slots_len),
+                                            gr_bytes(id), gr_length(id));
+    return gr_text_of(a, file, id, id);
+}
+
+static inline gr_text gr_pgettext_indexed(const void *file, size_t file_len, const gr_record *r, const uint32_t *slots, size_t slots_len,
+                                          const char *context, const char *id)
+{
+    gr_answer a = gettext_c_pgettext_indexed(gr_bytes(file), gr_size(file, file_len), &r->head, gr_none(slots), gr_size(slots, slots_len),
+                                             gr_bytes(context), gr_length(context), gr_bytes(id), gr_length(id));
+    return gr_text_of(a, file, id, id);
+}
+
+static inline gr_text gr_ngettext_indexed(const void *file, size_t file_len, const gr_record *r, const uint32_t *slots, size_t slots_len,
+                                          const char *id, const char *plural_id, uint64_t n)
+{
+    gr_answer a = gettext_c_ngettext_indexed(gr_bytes(file), gr_size(file, file_len), &r->head, gr_none(slots), gr_size(slots, slots_len),
+                                             r->codes, r->places, r->values, gr_bytes(id), gr_length(id), n);
+    return gr_text_of(a, file, id, plural_id);
+}
+
+static inline gr_text gr_npgettext_indexed(const void *file, size_t file_len, const gr_record *r, const uint32_t *slots, size_t slots_len,
+                                           const char *context, const char *id, const char *plural_id, uint64_t n)
+{
+    gr_answer a =
+        gettext_c_npgettext_indexed(gr_bytes(file), gr_size(file, file_len), &r->head, gr_none(slots), gr_size(slots, slots_len), r->codes,
+                                    r->places, r->values, gr_bytes(context), gr_length(context), gr_bytes(id), gr_length(id), n);
     return gr_text_of(a, file, id, plural_id);
 }
 

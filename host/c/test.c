@@ -130,6 +130,64 @@ static void altered_records(void)
     free(g);
 }
 
+/* The index: built, too few slots, lookups as by the scan, and slots that were altered. */
+static void indexes(void)
+{
+    uint8_t *g = copy(50);
+    gr_record r;
+    CHECK(gr_load(g, 50, with(NULL, GR_STANDARD), &r) == GR_OK);
+    CHECK(gr_slots(&r) == 2);
+    uint32_t *slots = malloc(3 * sizeof *slots);
+    if (slots == NULL) {
+        exit(2);
+    }
+    slots[0] = slots[1] = slots[2] = 7;
+    CHECK(gr_index(g, 50, &r, slots, 1) == GR_INDEX_ROOM && slots[0] == 7);
+    CHECK(gr_index(g, 49, &r, slots, 1) == GR_BAD_RECORD && slots[0] == 7);
+    CHECK(gr_index(g, 50, &r, NULL, 3) == GR_INDEX_ROOM);
+    CHECK(gr_index(g, 50, &r, slots, 3) == GR_OK);
+    /* 5381 * 33 + 'a' is even */
+    CHECK(slots[0] == 1 && slots[1] == 0 && slots[2] == 7);
+    for (size_t n = 2; n <= 3; n++) {
+        CHECK(is(gr_gettext_indexed(g, 50, &r, slots, n, "a"), 0, "b"));
+        CHECK(gr_gettext_indexed(g, 50, &r, slots, n, "a").text == (const char *)g + 46);
+        CHECK(is(gr_gettext_indexed(g, 50, &r, slots, n, "c"), 0, "c"));
+        CHECK(is(gr_pgettext_indexed(g, 50, &r, slots, n, "x", "a"), 0, "a"));
+        CHECK(is(gr_ngettext_indexed(g, 50, &r, slots, n, "a", "as", 1), 0, "b"));
+        CHECK(is(gr_ngettext_indexed(g, 50, &r, slots, n, "a", "as", 2), 0, "c"));
+        CHECK(is(gr_ngettext_indexed(g, 50, &r, slots, n, "z", "zs", 2), 0, "zs"));
+        CHECK(is(gr_npgettext_indexed(g, 50, &r, slots, n, "x", "a", "as", 2), 0, "as"));
+    }
+    /* 11 before 12, 12 before 10 */
+    CHECK(is(gr_gettext_indexed(g, 50, &r, slots, 1, "a"), GR_INDEX_ROOM, "a"));
+    CHECK(is(gr_gettext_indexed(g, 49, &r, slots, 1, "a"), GR_BAD_RECORD, "a"));
+    CHECK(is(gr_gettext_indexed(g, 50, &r, NULL, 2, "a"), GR_INDEX_ROOM, "a"));
+    gr_record zero;
+    CHECK(gr_load(g, 50, with("1%n", GR_STANDARD), &zero) == GR_OK);
+    CHECK(is(gr_ngettext_indexed(g, 50, &zero, slots, 2, "a", "as", 0), GR_ZERO_MODULUS, "as"));
+    CHECK(is(gr_ngettext_indexed(g, 50, &zero, slots, 1, "a", "as", 0), GR_INDEX_ROOM, "as"));
+    zero.head.root = 512;
+    CHECK(is(gr_ngettext_indexed(g, 50, &zero, slots, 1, "a", "as", 0), GR_BAD_RECORD, "as"));
+    CHECK(gr_index(g, 50, &zero, slots, 2) == GR_OK);
+    /* altered slots: a number above the count is passed by, and full slots end a search */
+    slots[0] = UINT32_MAX;
+    slots[1] = 1;
+    CHECK(is(gr_gettext_indexed(g, 50, &r, slots, 2, "a"), 0, "b"));
+    CHECK(is(gr_gettext_indexed(g, 50, &r, slots, 2, "c"), 0, "c"));
+    slots[0] = 0;
+    CHECK(is(gr_gettext_indexed(g, 50, &r, slots, 2, "a"), 0, "a"));
+    /* the empty catalog uses one slot; of a count over 32 bits the low 32 count */
+    gr_empty(&zero);
+    CHECK(gr_slots(&zero) == 1);
+    CHECK(gr_index(NULL, 0, &zero, slots, 0) == GR_INDEX_ROOM);
+    CHECK(gr_index(NULL, 0, &zero, slots, 1) == GR_OK && slots[0] == 0);
+    zero.head.count = SIZE_MAX;
+    CHECK(gr_slots(&zero) == (size_t)1 << 33);
+    CHECK(gr_index(NULL, 0, &zero, slots, 3) == GR_INDEX_ROOM);
+    free(slots);
+    free(g);
+}
+
 static void rules(void)
 {
     uint8_t *g = copy(50);
@@ -232,6 +290,7 @@ int main(void)
     loads_and_refusals();
     lookups();
     altered_records();
+    indexes();
     rules();
     rest();
     if (failed != 0) {

@@ -61,12 +61,12 @@ fn string(file: &[u8], big: bool, table: usize, i: usize) -> Option<(usize, &[u8
 }
 
 // A word of a file has 32 bits: of a larger number in a record the low 32 count.
-fn low(x: usize) -> usize {
+pub fn low(x: usize) -> usize {
     x % (1 << 32)
 }
 
 // The key of entry i, and its translation with its place.
-fn entry<'a>(file: &'a [u8], r: &Record, i: usize) -> Option<(&'a [u8], usize, &'a [u8])> {
+pub fn entry<'a>(file: &'a [u8], r: &Record, i: usize) -> Option<(&'a [u8], usize, &'a [u8])> {
     let (_, original) = string(file, r.head.big != 0, low(r.head.originals), i)?;
     let id = original.iter().position(|&b| b == 4).map_or(0, |four| four + 1);
     let end = id + original[id..].iter().position(|&b| b == 0)?;
@@ -74,12 +74,22 @@ fn entry<'a>(file: &'a [u8], r: &Record, i: usize) -> Option<(&'a [u8], usize, &
     Some((&original[..end], start, &translation[..translation.len() - 1]))
 }
 
-// What a lookup should answer; no count for the two that have none.
-fn answer(file: &[u8], r: &Record, key: &[u8], n: Option<u64>) -> Answer {
+// The last entry with the key.
+fn last(file: &[u8], r: &Record, key: &[u8]) -> Option<usize> {
+    // entries past these have no cell in the file
+    let most = low(r.head.count).min(file.len() / 8 + 1);
+    (0..most).rev().find(|&i| entry(file, r, i).map_or(false, |found| found.0 == key))
+}
+
+// What a lookup should answer that finds the entry so; no count for the two that have none. Too few slots may be lent to it.
+pub fn answer(file: &[u8], r: &Record, n: Option<u64>, too_few: bool, find: impl FnOnce() -> Option<usize>) -> Answer {
     let which = if n.map_or(true, |n| n == 1) { 1 } else { 2 };
     let caller = |number| Answer { number, which, entry: 0, form: 0, start: 0, len: 0 };
     if file.len() != r.head.length || n.is_some() && !is_tree(r) {
         return caller(11);
+    }
+    if too_few {
+        return caller(12);
     }
     let form = match n {
         None => 0,
@@ -88,10 +98,8 @@ fn answer(file: &[u8], r: &Record, key: &[u8], n: Option<u64>) -> Answer {
             Some(form) => form,
         },
     };
-    // entries past these have no cell in the file
-    let most = low(r.head.count).min(file.len() / 8 + 1);
-    let found = (0..most).rev().find_map(|i| entry(file, r, i).filter(|found| found.0 == key).map(|found| (i, found)));
-    let Some((i, (_, start, translation))) = found else { return caller(0) };
+    let Some(i) = find() else { return caller(0) };
+    let Some((_, start, translation)) = entry(file, r, i) else { return caller(0) };
     let mut at = start;
     for (k, segment) in translation.split(|&b| b == 0).enumerate() {
         if k as u64 == form {
@@ -168,7 +176,7 @@ impl Oracle {
         }
         alter_rule(rng, &mut record);
         alter_tables(rng, &mut record, bytes.len());
-        let ours = Ours { number: 0, catalog: self.lent.put_record(&record) };
+        let mut ours = Ours { number: 0, catalog: self.lent.put_record(&record), slots: None };
         self.stats.cases += 1;
         let told = |what: String| Err(format!("{what}\n  file {}\n  tables {:?}", hex(&bytes), record.head));
 
@@ -194,6 +202,7 @@ impl Oracle {
                 keys.push(key.to_vec());
             }
         }
+        ours.slots = self.build(rng, file, &ours).or_else(|e| told(e).map(|()| None))?;
         for _ in 0..4 {
             let n = *rng.pick(&make::COUNTS);
             let value = if tree { record.resolve(record.head.root, n) } else { None };
@@ -206,7 +215,8 @@ impl Oracle {
             let key = rng.pick(&keys).clone();
             let id = self.lent.id.put(&key, rng.one_in(2));
             let (one, many) = (ours.gettext(file, id), ours.ngettext(file, id, n));
-            let wanted = (answer(&bytes, &record, &key, None), answer(&bytes, &record, &key, Some(n)));
+            let by_scan = |n| answer(&bytes, &record, n, false, || last(&bytes, &record, &key));
+            let wanted = (by_scan(None), by_scan(Some(n)));
             self.stats.lookups += 2;
             if (one, many) != wanted {
                 return told(format!("key {} at {n}: {:?}, by the model {wanted:?}", hex(&key), (one, many)));
@@ -222,6 +232,6 @@ impl Oracle {
                 }
             }
         }
-        Ok(())
+        self.altered_slots(rng, file, &ours, &keys).or_else(told)
     }
 }

@@ -113,6 +113,7 @@ pub struct Stats {
     pub cases: u64,
     pub lookups: u64,
     pub values: u64,
+    pub indexes: u64,
     pub numbers: [u64; 12],
     // each kind of explained difference: how often, and its shortest header or rule
     pub kinds: BTreeMap<String, (u64, Vec<u8>)>,
@@ -123,6 +124,7 @@ impl Stats {
         self.cases += other.cases;
         self.lookups += other.lookups;
         self.values += other.values;
+        self.indexes += other.indexes;
         for (sum, x) in self.numbers.iter_mut().zip(other.numbers) {
             *sum += x;
         }
@@ -410,7 +412,7 @@ impl Oracle {
     // The empty catalog answers with the caller's own texts.
     pub fn empty_catalog(&mut self, rng: &mut Rng) -> Result<(), String> {
         let record = self.empty;
-        let ours = Ours { number: 0, catalog: &record };
+        let ours = Ours { number: 0, catalog: &record, slots: None };
         let file = self.lent.file.put(b"", false);
         for key in [&b""[..], b"a", b"a\x04b"] {
             self.ask(rng, file, b"", &ours, &Catalog::empty(), key, &COUNTS)?;
@@ -429,6 +431,9 @@ impl Oracle {
         depth: Depth,
     ) -> Result<(), String> {
         let entries = count(file, big);
+        // every lookup from here on is made by the scan and by an index
+        let slots = self.build(rng, file, ours)?;
+        let ours = &Ours { slots, ..*ours };
         if let Depth::Keys(most) = depth {
             for i in (0..entries).step_by((entries / most).max(1)) {
                 if let Some(key) = key(file, big, i) {
@@ -443,6 +448,15 @@ impl Oracle {
                 }
             }
             return Ok(());
+        }
+        if slots.is_some() {
+            for key in (0..entries).filter_map(|i| key(file, big, i)).filter(|key| key.len() <= self.lent.id.room()) {
+                let answer = ours.gettext(file, self.lent.id.put(key, false));
+                self.stats.lookups += 1;
+                if answer.number != 0 || answer.which != 0 {
+                    return Err(format!("key {} by scan and index: {answer:?}", hex(key)));
+                }
+            }
         }
         let most = entries.min(6);
         let first = if entries > most { rng.below(entries - most + 1) } else { 0 };

@@ -2,6 +2,7 @@
 // static library, and every answer is compared. The last line of each part is its summary; the exit status is 1 where they differ.
 mod altered;
 mod compare;
+mod indexed;
 mod make;
 mod named;
 mod rattle;
@@ -148,10 +149,11 @@ fn summary(part: &str, stats: &Stats, differ: u64, start: Instant) -> bool {
         println!("  explained {times}: {kind}; shortest: {}", shrink::example(kind, example));
     }
     println!(
-        "{part}: {} cases, {} lookups, {} values; agreed by number {:?}; {} explained, {differ} differ",
+        "{part}: {} cases, {} lookups, {} values, {} indexes; agreed by number {:?}; {} explained, {differ} differ",
         stats.cases,
         stats.lookups,
         stats.values,
+        stats.indexes,
         stats.numbers,
         stats.kinds.values().map(|(times, _)| times).sum::<u64>(),
     );

@@ -55,18 +55,20 @@ pub struct Lent {
     pub id: Slot,
     pub plural: Slot,
     record: Slot,
+    slots: Slot,
 }
 
-// A loaded catalog whose record is lent.
+// A loaded catalog whose record is lent. Where it has slots, each lookup is made in them too, and both must answer the same.
 #[derive(Clone, Copy)]
 pub struct Ours<'a> {
     pub number: u32,
     pub catalog: &'a Record,
+    pub slots: Option<&'a [u32]>,
 }
 
 impl Lent {
     pub fn new() -> Lent {
-        let sizes = [1 << 24, 1 << 20, 1 << 20, 1 << 20, 1 << 20, 1 << 14];
+        let sizes = [1 << 24, 1 << 20, 1 << 20, 1 << 20, 1 << 20, 1 << 14, 1 << 22];
         let whole = sizes.iter().map(|size| size + PAGE).sum::<usize>() + PAGE;
         unsafe {
             let fd = memfd_create(b"lent\0".as_ptr() as *const c_char, 0);
@@ -84,8 +86,16 @@ impl Lent {
                 at += size + PAGE;
                 slot
             });
-            let [file, rule, context, id, plural, record] = slots;
-            Lent { file, rule, context, id, plural, record }
+            let [file, rule, context, id, plural, record, mut slots] = slots;
+            // the port writes slots, so the address at which they are written lies between such pages too
+            let room = mmap(null, slots.size + 2 * PAGE, PROT_NONE, MAP_PRIVATE | MAP_ANONYMOUS, -1, 0) as *mut u8;
+            assert!(room as isize != -1);
+            let page = room.add(PAGE) as *mut c_void;
+            let at = (whole - PAGE - slots.size) as c_long;
+            let got = mmap(page, slots.size, PROT_READ | PROT_WRITE, MAP_SHARED | MAP_FIXED, fd, at);
+            assert!(got == page);
+            slots.write = page as *mut u8;
+            Lent { file, rule, context, id, plural, record, slots }
         }
     }
 
@@ -95,7 +105,23 @@ impl Lent {
         unsafe {
             let out = &mut *(self.record.write.add(at) as *mut Record);
             let number = ffi::load(file, rule, standard, utf8, out);
-            Ours { number, catalog: &*(self.record.read.add(at) as *const Record) }
+            Ours { number, catalog: &*(self.record.read.add(at) as *const Record), slots: None }
+        }
+    }
+
+    pub fn most_slots(&self) -> usize {
+        self.slots.size / 4
+    }
+
+    // Slots with these values, to be written; and the same to be read.
+    pub fn put_slots<'a>(&self, values: &[u32], at_start: bool) -> (&'a mut [u32], &'a [u32]) {
+        assert!(values.len() <= self.most_slots());
+        let at = if at_start { 0 } else { self.slots.size - 4 * values.len() };
+        unsafe {
+            let write = self.slots.write.add(at) as *mut u32;
+            std::ptr::copy_nonoverlapping(values.as_ptr(), write, values.len());
+            let read = self.slots.read.add(at) as *const u32;
+            (std::slice::from_raw_parts_mut(write, values.len()), std::slice::from_raw_parts(read, values.len()))
         }
     }
 }
@@ -111,21 +137,53 @@ impl Lent {
     }
 }
 
-impl Ours<'_> {
+impl<'a> Ours<'a> {
+    // No lookup has this number: the one in the slots answers another thing than the scan.
+    fn both(&self, scan: Answer, indexed: impl Fn(Option<&[u32]>) -> Answer) -> Answer {
+        if self.slots.is_some() && indexed(self.slots) != scan {
+            return Answer { number: u32::MAX, ..scan };
+        }
+        scan
+    }
+
     pub fn gettext(&self, file: &[u8], id: &[u8]) -> Answer {
-        ffi::gettext(file, self.catalog, id)
+        let ask = |slots: Option<&[u32]>| ffi::gettext(file, self.catalog, slots, id);
+        self.both(ask(None), ask)
     }
 
     pub fn pgettext(&self, file: &[u8], context: &[u8], id: &[u8]) -> Answer {
-        ffi::pgettext(file, self.catalog, context, id)
+        let ask = |slots: Option<&[u32]>| ffi::pgettext(file, self.catalog, slots, context, id);
+        self.both(ask(None), ask)
     }
 
     pub fn ngettext(&self, file: &[u8], id: &[u8], n: u64) -> Answer {
-        ffi::ngettext(file, self.catalog, id, n)
+        let ask = |slots: Option<&[u32]>| ffi::ngettext(file, self.catalog, slots, id, n);
+        self.both(ask(None), ask)
     }
 
     pub fn npgettext(&self, file: &[u8], context: &[u8], id: &[u8], n: u64) -> Answer {
-        ffi::npgettext(file, self.catalog, context, id, n)
+        let ask = |slots: Option<&[u32]>| ffi::npgettext(file, self.catalog, slots, context, id, n);
+        self.both(ask(None), ask)
+    }
+
+    // The four lookups in slots alone.
+    pub fn in_slots(&self, slots: &[u32], file: &[u8], context: Option<&[u8]>, id: &[u8], n: Option<u64>) -> Answer {
+        match (context, n) {
+            (None, None) => ffi::gettext(file, self.catalog, Some(slots), id),
+            (Some(context), None) => ffi::pgettext(file, self.catalog, Some(slots), context, id),
+            (None, Some(n)) => ffi::ngettext(file, self.catalog, Some(slots), id, n),
+            (Some(context), Some(n)) => ffi::npgettext(file, self.catalog, Some(slots), context, id, n),
+        }
+    }
+
+    // Building: the number, and the slots that it leaves, to be read.
+    pub fn index(&self, lent: &Lent, file: &[u8], before: &[u32], at_start: bool) -> (u32, &'a [u32]) {
+        let (write, read) = lent.put_slots(before, at_start);
+        (ffi::index(file, self.catalog, write), read)
+    }
+
+    pub fn slots(&self) -> usize {
+        ffi::slots(self.catalog)
     }
 
     pub fn resolve_at(&self, n: u64) -> Form {

@@ -40,10 +40,13 @@ use Rattle.reading_rule.specs.declared.Reading.the-variants.{Standard}
 use Rattle.reading_rule.proofs.Meaning.{IsRule, standard-exactly}
 use Rattle.container_layout.specs.Mo.{segments}
 use Rattle.container_layout.specs.declared.Tables.{Tables}
+use Rattle.lookup_scan.specs.Keys.{lastWith}
 use Rattle.lookup_scan.proofs.Last.{Last, last-hit}
+use Rattle.lookup.specs.Lookup.{plural, number}
 use Rattle.lookup.specs.declared.Reason.{Reason}
 use Rattle.lookup.specs.declared.Reason.the-variants as reason
 use Rattle.lookup.proofs.Rated.{Names, rated-lookup}
+use Rattle.lookup.proofs.Indexed.{never-12}
 use Rattle.container.specs.Catalog.{Answer, accepted, refused, noTables, load, treeIn}
 use Rattle.container.specs.Catalog as answer
 use Rattle.container.specs.Accepts.{Accepts, Fails}
@@ -82,7 +85,7 @@ use Rattle.gettext_c.proofs.gettext_c_cost.Kinds as cost-kinds
 
 -- 1. No input stops the host. No function asks anything of its caller: `Pre` is what it requires, as the check reads it from the source.
 -- That it ends, and touches nothing outside what is lent to it, is what the check proves of every function.
-abbrev AsksNothing : (n : ℕ) (ps : List (PK n)) → In n ps → Type 0
+abbrev pub AsksNothing : (n : ℕ) (ps : List (PK n)) → In n ps → Type 0
 AsksNothing n ps Pre = (κs : Lfts n) (a : Dens κs ps) → Pre κs a
 
 pub nothing-asked : AsksNothing 3 empty-kinds.ps empty.Pre × AsksNothing 4 load-kinds.ps load-reads.Pre × AsksNothing 1 gettext-kinds.ps gettext.Pre
@@ -104,13 +107,21 @@ pub data Refused : ℕ → Type 0 where
   zero-modulus : Refused (numberOf error.ZeroModulus)
   bad-record : Refused (numberOf error.BadRecord)
 
-pub refused-lookup : (own : ℕ) (a : Reason) → (answerOf own a .number ≡ 0 → ⊥) → (answerOf own a .which ≡ own) × Refused (answerOf own a .number)
-refused-lookup own reason.StaleLength n = (refl, bad-record)
-refused-lookup own reason.NoTree n = (refl, bad-record)
-refused-lookup own reason.ZeroModulus n = (refl, zero-modulus)
-refused-lookup own reason.NoEntry n = absurd (n refl)
-refused-lookup own (reason.TooFewSegments i) n = absurd (n refl)
-refused-lookup own (reason.Answered i form start len) n = absurd (n refl)
+refused-number : (own : ℕ) (a : Reason) → (number a ≡ number reason.IndexRoom → ⊥) → (answerOf own a .number ≡ 0 → ⊥) → (answerOf own a .which ≡ own) × Refused (answerOf own a .number)
+refused-number own reason.StaleLength i n = (refl, bad-record)
+refused-number own reason.NoTree i n = (refl, bad-record)
+refused-number own reason.IndexRoom i n = absurd (i refl)
+refused-number own reason.ZeroModulus i n = (refl, zero-modulus)
+refused-number own reason.NoEntry i n = absurd (n refl)
+refused-number own (reason.TooFewSegments j) i n = absurd (n refl)
+refused-number own (reason.Answered j form start len) i n = absurd (n refl)
+
+-- the rule's value is v, form 0 for a lookup without a count
+pub refused-lookup : (s h key : List ℕ) (v : Resolved) (own : ℕ) → (answerOf own (plural s (tablesIn h) v (lastWith s (tablesIn h) key)) .number ≡ 0 → ⊥)
+    → (answerOf own (plural s (tablesIn h) v (lastWith s (tablesIn h) key)) .which ≡ own)
+    × Refused (answerOf own (plural s (tablesIn h) v (lastWith s (tablesIn h) key)) .number)
+refused-lookup s h key v own n =
+    refused-number own (plural s (tablesIn h) v (lastWith s (tablesIn h) key)) (never-12 s (tablesIn h) v (lastWith s (tablesIn h) key)) n
 
 -- 2. The container, UTF-8 and the C reading of rules, by the public documents. A text is told to be UTF-8 exactly if it is a run of encodings of
 -- character numbers (RFC 3629, section 3).
@@ -201,7 +212,7 @@ module _ (o : Options) (f s : List ℕ) {Q : Pool} {r : Loaded} (loads : Loads (
     pub answers : (key : List ℕ) (i start len : ℕ) → Last s (tablesIn (r .head)) key (tablesIn (r .head) .count) i start len → k ≤ length (segments s start len)
         → IsSegment s i start len (yields .form) (answerOf (ownFor n) (counted s (r .head) Q key n))
 
-  abbrev range : Rated
+  abbrev pub range : Rated
   range = ratedOf Q (nodesIn (r .head)) (rootIn (r .head))
 
   kept : {lo hi : ℕ} → range ≡ rated.Range lo hi → (k : ℕ) → hi < k → (n : ℕ) → n < 2 ^ 64 → Kept lo hi k n

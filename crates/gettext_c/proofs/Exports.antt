@@ -2,6 +2,7 @@
 use Prim.Native.Nat.{ℕ, _<_}
 use mathlib.Core.Path.{_≡_, ap, ap₂, _∙_}
 use mathlib.Core.List.{List}
+use lib.ListN.{length}
 use Rattle.refusal.specs.Numbers.{outcomeNumber}
 use Rattle.refusal.specs.declared.Outcome.the-variants.{Loaded}
 use Rattle.rules.specs.Tree.{defaultTree}
@@ -11,10 +12,13 @@ use Rattle.container.specs.Promise as promise
 use Rattle.container.specs.declared.Options.{Options}
 use Rattle.container.specs.declared.Loading.{Loading}
 use Rattle.container.proofs.Stages.{some-nodes}
+use Rattle.container_layout.specs.declared.Tables.{Tables}
+use Rattle.lookup_index.specs.Index.{building, leaves, number}
+use Rattle.lookup_index.specs.declared.Building.{Building}
 use Rattle.host.specs.Host as host
 use Rattle.host.specs.Host.{headOf, loadedOf}
 use Rattle.host.specs.declared.Loaded as loaded
-use Rattle.gettext_c.specs.Record.{Loads, IsEmpty}
+use Rattle.gettext_c.specs.Record.{Loads, IsEmpty, Indexes}
 
 -- a loaded rule has a node
 pub loaded-nodes : (a : Answer) {Q : Pool} {r : Loading} → promise.Loads a Q r → 0 < r .nodes
@@ -43,4 +47,14 @@ empties h e f =
       head-is = ap (λ (x : loaded.Loaded). x .head) e ∙ ap₂ headOf (h .tables-are) (h .nodes-are);
       tables-are = f ∙ h .tables-are;
       rule-is = h .rule-is;
+    }
+
+-- building with the tables that the head says
+pub indexes : (s h lent : List ℕ) {slots : List ℕ} {t : Tables} {b : Building} {n : ℕ} → t ≡ host.tablesIn h → b ≡ building s t (length lent) → n ≡ number b
+    → slots ≡ leaves s t lent b → Indexes s h lent slots n
+indexes s h lent {b = b} e f g k =
+    let z : b ≡ building s (host.tablesIn h) (length lent) = f ∙ ap (λ (x : Tables). building s x (length lent)) e in
+    record {
+      number-is = g ∙ ap number z;
+      slots-are = k ∙ ap (λ (x : Tables). leaves s x lent b) e ∙ ap (leaves s (host.tablesIn h) lent) z;
     }

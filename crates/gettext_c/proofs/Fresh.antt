@@ -24,16 +24,12 @@ use Rattle.rules.specs.declared.Value.the-variants as value
 use Rattle.rules.specs.declared.Resolved.{Resolved}
 use Rattle.rules.specs.declared.Resolved.the-variants as resolved
 use Rattle.reading_rule.proofs.Joined.{held-is-tree, held-tree, held-resolves, held-rates, held-fits}
-use Rattle.container_layout.specs.Mo.{segment}
 use Rattle.container_layout.specs.declared.Tables.{Tables}
-use Rattle.container_layout.specs.declared.Stretch.{Stretch}
-use Rattle.container_layout.specs.declared.Stretch.the-variants as stretch
 use Rattle.lookup_scan.specs.Keys.{lastWith}
 use Rattle.lookup_scan.specs.declared.Hit.{Hit}
-use Rattle.lookup_scan.specs.declared.Hit.the-variants as hit
-use Rattle.lookup.specs.Lookup.{bySegment, byEntry, byRule, plural, number}
-use Rattle.lookup.specs.declared.Reason.{Reason}
+use Rattle.lookup.specs.Lookup.{byRule, plural, number}
 use Rattle.lookup.specs.declared.Reason.the-variants as reason
+use Rattle.lookup.proofs.Reasons.{by-entry-0}
 use Rattle.container.specs.Catalog.{Answer, accepted, refused, load, tablesIn, treeIn}
 use Rattle.container.specs.Promise.{outcomeOf}
 use Rattle.container.specs.declared.Options.{Options}
@@ -56,31 +52,16 @@ never-0 error.UnknownEncoding e = omega arith
 never-0 error.RuleTooLong e = omega arith
 never-0 error.ZeroModulus e = omega arith
 never-0 error.BadRecord e = omega arith
+never-0 error.IndexRoom e = omega arith
 
 -- so a load with number 0 was accepted
 number-0-accepted : (a : Answer) → outcomeNumber (outcomeOf a) ≡ 0 → a ≡ accepted (tablesIn a) (treeIn a)
 number-0-accepted (accepted t r) e = refl
 number-0-accepted (refused x) e = absurd (never-0 x e)
 
--- the number of an answer that is neither stale nor without a tree
-not-11 : (r : Reason) → (r ≡ reason.StaleLength → ⊥) → (r ≡ reason.NoTree → ⊥) → number r ≡ numberOf error.BadRecord → ⊥
-not-11 reason.StaleLength h k e = h refl
-not-11 reason.NoTree h k e = k refl
-not-11 reason.ZeroModulus h k e = omega arith
-not-11 reason.NoEntry h k e = omega arith
-not-11 (reason.TooFewSegments i) h k e = omega arith
-not-11 (reason.Answered i form start len) h k e = omega arith
-
-segment-reason : (i form : ℕ) (x : Stretch) → number (bySegment i form x) ≡ 0
-segment-reason i form (stretch.At start len) = refl
-segment-reason i form stretch.Outside = refl
-
-entry-reason : (s : List ℕ) (form : ℕ) (h : Hit) → number (byEntry s form h) ≡ 0
-entry-reason s form (hit.At i start len) = segment-reason i form (segment s start len form)
-entry-reason s form hit.Missing = refl
-
+-- 11 is not the number of what follows from a value
 rule-reason : (s : List ℕ) (v : Value) (h : Hit) → number (byRule s (formOf v) h) ≡ numberOf error.BadRecord → ⊥
-rule-reason s (value.Is x) h e = let z = entry-reason s x h in omega (arith, sym z ∙ e)
+rule-reason s (value.Is x) h e = let z = by-entry-0 s x h in omega (arith, sym z ∙ e)
 rule-reason s value.ZeroModulus h e = omega arith
 
 -- with the length right, the number is that of what follows from the rule and the hit

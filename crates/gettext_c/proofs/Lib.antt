@@ -3,3 +3,4 @@ pub mod Fresh
 pub mod Right
 pub mod Demands
 pub mod Unique
+pub mod Indexed

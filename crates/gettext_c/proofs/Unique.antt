@@ -30,6 +30,18 @@ use Rattle.gettext_c.proofs.gettext_c_resolve.Reads as resolve
 use Rattle.gettext_c.proofs.gettext_c_resolve.Kinds as resolve-kinds
 use Rattle.gettext_c.proofs.gettext_c_is_utf8.Reads as is-utf8
 use Rattle.gettext_c.proofs.gettext_c_is_utf8.Kinds as is-utf8-kinds
+use Rattle.gettext_c.proofs.gettext_c_slots.Reads as slots
+use Rattle.gettext_c.proofs.gettext_c_slots.Kinds as slots-kinds
+use Rattle.gettext_c.proofs.gettext_c_gettext_indexed.Reads as gettext-indexed
+use Rattle.gettext_c.proofs.gettext_c_gettext_indexed.Kinds as gettext-indexed-kinds
+use Rattle.gettext_c.proofs.gettext_c_pgettext_indexed.Reads as pgettext-indexed
+use Rattle.gettext_c.proofs.gettext_c_pgettext_indexed.Kinds as pgettext-indexed-kinds
+use Rattle.gettext_c.proofs.gettext_c_ngettext_indexed.Reads as ngettext-indexed
+use Rattle.gettext_c.proofs.gettext_c_ngettext_indexed.Kinds as ngettext-indexed-kinds
+use Rattle.gettext_c.proofs.gettext_c_npgettext_indexed.Reads as npgettext-indexed
+use Rattle.gettext_c.proofs.gettext_c_npgettext_indexed.Kinds as npgettext-indexed-kinds
+use Rattle.gettext_c.proofs.gettext_c_index.Reads as index
+use Rattle.gettext_c.proofs.gettext_c_index.Kinds as index-kinds
 use Rattle.gettext_c.proofs.gettext_c_cost.Reads as cost
 use Rattle.gettext_c.proofs.gettext_c_cost.Kinds as cost-kinds
 
@@ -74,3 +86,24 @@ is-utf8-one κs a u v x y p q = p ∙ sym q
 
 pub cost-one : One 1 cost-kinds.ps cost-kinds.r cost.Post
 cost-one κs a u v x y p q = p ∙ sym q
+
+pub slots-one : One 1 slots-kinds.ps slots-kinds.r slots.Post
+slots-one κs a u v x y p q = p ∙ sym q
+
+pub gettext-indexed-one : One 1 gettext-indexed-kinds.ps gettext-indexed-kinds.r gettext-indexed.Post
+gettext-indexed-one κs a u v x y p q = p ∙ sym q
+
+pub pgettext-indexed-one : One 1 pgettext-indexed-kinds.ps pgettext-indexed-kinds.r pgettext-indexed.Post
+pgettext-indexed-one κs a u v x y p q = p ∙ sym q
+
+pub ngettext-indexed-one : One 1 ngettext-indexed-kinds.ps ngettext-indexed-kinds.r ngettext-indexed.Post
+ngettext-indexed-one κs a u v x y p q = p ∙ sym q
+
+pub npgettext-indexed-one : One 1 npgettext-indexed-kinds.ps npgettext-indexed-kinds.r npgettext-indexed.Post
+npgettext-indexed-one κs a u v x y p q = p ∙ sym q
+
+abbrev index-left : (κs : Lfts 2) → AtExit (endedOf 2 index-kinds.ps index-kinds.r) κs → List ℕ
+index-left κs x = now (x .1 .1 .0)
+
+pub index-one : OneLeft 2 index-kinds.ps index-kinds.r index.Post index-left
+index-one κs a u v x y p q = (p .number-is ∙ sym (q .number-is), p .slots-are ∙ sym (q .slots-are))

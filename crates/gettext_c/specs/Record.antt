@@ -3,13 +3,15 @@
 use Prim.Native.Nat.{ℕ}
 use mathlib.Core.Path.{_≡_}
 use mathlib.Core.List.{List}
+use lib.ListN.{length}
 use Rattle.refusal.specs.Numbers.{outcomeNumber}
 use Rattle.rules.specs.Tree.{defaultTree}
 use Rattle.rules.specs.Pool.{Pool}
 use Rattle.rules.specs.Pack.{packed, packedSize}
 use Rattle.rules.specs.Answer.{resolvedOf}
 use Rattle.lookup_scan.specs.Keys.{lastWith}
-use Rattle.lookup.specs.Lookup.{singular, plural}
+use Rattle.lookup_index.specs.Index.{soughtIn, building, leaves, number}
+use Rattle.lookup.specs.Lookup.{singular, plural, singularIn, pluralIn}
 use Rattle.lookup.specs.declared.Reason.{Reason}
 use Rattle.container.specs.Catalog.{Answer, noTables, tablesIn, treeIn}
 use Rattle.container.specs.Promise.{outcomeOf}
@@ -36,3 +38,15 @@ found s h key = singular s (host.tablesIn h) (lastWith s (host.tablesIn h) key)
 
 abbrev pub counted : List ℕ → List ℕ → Pool → List ℕ → ℕ → Reason
 counted s h P key n = plural s (host.tablesIn h) (resolvedOf P (nodesIn h) (rootIn h) n) (lastWith s (host.tablesIn h) key)
+
+-- building an index by a head answers the number, and leaves these slots of those lent
+pub record Indexes (s h lent slots : List ℕ) (n : ℕ) : Type 0 where
+  pub number-is : n ≡ number (building s (host.tablesIn h) (length lent))
+  pub slots-are : slots ≡ leaves s (host.tablesIn h) lent (building s (host.tablesIn h) (length lent))
+
+-- the lookups in lent slots
+abbrev pub foundIn : List ℕ → List ℕ → List ℕ → List ℕ → Reason
+foundIn s h slots key = singularIn s (host.tablesIn h) (soughtIn s (host.tablesIn h) slots key)
+
+abbrev pub countedIn : List ℕ → List ℕ → List ℕ → Pool → List ℕ → ℕ → Reason
+countedIn s h slots P key n = pluralIn s (host.tablesIn h) (resolvedOf P (nodesIn h) (rootIn h) n) (soughtIn s (host.tablesIn h) slots key)

@@ -15,10 +15,11 @@ ghost use Rattle.rules.specs.Pool.{pool};
 ghost use Rattle.rules.specs.Value.{truth};
 ghost use Rattle.rules.specs.Answer.{resolvedOf, ratedOf, fitOf};
 ghost use Rattle.lookup_scan.specs.Keys.{keyOf};
+ghost use Rattle.lookup_slots.specs.Used.{used};
 ghost use Rattle.container.specs.Catalog.{load};
 ghost use Rattle.container_cost.specs.Cost.{cost};
-ghost use Rattle.host.specs.Host.{optionsOf, nodesIn, rootIn, answerOf, ownFor, ratingOf, fitsOf, valueOf};
-ghost use Rattle.gettext_c.specs.Record.{Loads, IsEmpty, found, counted};
+ghost use Rattle.host.specs.Host.{optionsOf, tablesIn, nodesIn, rootIn, answerOf, ownFor, ratingOf, fitsOf, valueOf};
+ghost use Rattle.gettext_c.specs.Record.{Loads, IsEmpty, Indexes, found, counted, foundIn, countedIn};
 
 // The empty catalog.
 #[no_mangle]
@@ -128,6 +129,123 @@ pub extern "C" fn gettext_c_npgettext<'a>(
     let reason = lookup::nfind(
         file,
         tables_in(head),
+        codes,
+        places,
+        values,
+        nodes,
+        root,
+        true,
+        context,
+        id,
+        n,
+    );
+    host::answer_of(reason, host::own_for(n))
+}
+
+// How many slots the index of a record uses.
+#[no_mangle]
+pub extern "C" fn gettext_c_slots<'a>(head: &'a [usize; 7]) -> usize
+    ensures { λ r. ⌜ r ≡ used (tablesIn (now (head .entry)) .count) ⌝ }
+{
+    let t = tables_in(head);
+    lookup_slots::used_by(t.count)
+}
+
+// Builds the index of a record and its file in the first of the slots lent, and answers its number.
+#[no_mangle]
+pub extern "C" fn gettext_c_index<'a>(
+    file: &'a [u8],
+    head: &'a [usize; 7],
+    slots: &mut [u32],
+) -> u32
+    ensures { λ r. ⌜ Indexes (now (file .entry)) (now (head .entry)) (now (slots .entry)) (now (slots .exit)) r ⌝ }
+{
+    let building = lookup_index::build(file, tables_in(head), slots);
+    lookup_index::number_of(building)
+}
+
+// The four lookups in slots that an index of this record and this file was built in. Other slots do no harm.
+#[no_mangle]
+pub extern "C" fn gettext_c_gettext_indexed<'a>(
+    file: &'a [u8],
+    head: &'a [usize; 7],
+    slots: &'a [u32],
+    id: &'a [u8],
+) -> Answer
+    ensures { λ r. ⌜ r ≡ answerOf 1 (foundIn (now (file .entry)) (now (head .entry)) (now (slots .entry)) (now (id .entry))) ⌝ }
+{
+    let reason = lookup::find_indexed(file, tables_in(head), slots, false, id, id);
+    host::answer_of(reason, 1)
+}
+
+#[no_mangle]
+pub extern "C" fn gettext_c_pgettext_indexed<'a>(
+    file: &'a [u8],
+    head: &'a [usize; 7],
+    slots: &'a [u32],
+    context: &'a [u8],
+    id: &'a [u8],
+) -> Answer
+    ensures { λ r. ⌜ r ≡ answerOf 1 (foundIn (now (file .entry)) (now (head .entry)) (now (slots .entry)) (keyOf true (now (context .entry)) (now (id .entry)))) ⌝ }
+{
+    let reason = lookup::find_indexed(file, tables_in(head), slots, true, context, id);
+    host::answer_of(reason, 1)
+}
+
+#[no_mangle]
+pub extern "C" fn gettext_c_ngettext_indexed<'a>(
+    file: &'a [u8],
+    head: &'a [usize; 7],
+    slots: &'a [u32],
+    codes: &'a [u8; 512],
+    places: &'a [u16; 1024],
+    values: &'a [u64; 512],
+    id: &'a [u8],
+    n: u64,
+) -> Answer
+    ensures { λ r. ⌜ r ≡ answerOf (ownFor n) (countedIn (now (file .entry)) (now (head .entry)) (now (slots .entry))
+        (pool (now (codes .entry)) (now (places .entry)) (now (values .entry))) (now (id .entry)) n) ⌝ }
+{
+    let nodes = head[5];
+    let root = head[6];
+    let reason = lookup::nfind_indexed(
+        file,
+        tables_in(head),
+        slots,
+        codes,
+        places,
+        values,
+        nodes,
+        root,
+        false,
+        id,
+        id,
+        n,
+    );
+    host::answer_of(reason, host::own_for(n))
+}
+
+#[no_mangle]
+pub extern "C" fn gettext_c_npgettext_indexed<'a>(
+    file: &'a [u8],
+    head: &'a [usize; 7],
+    slots: &'a [u32],
+    codes: &'a [u8; 512],
+    places: &'a [u16; 1024],
+    values: &'a [u64; 512],
+    context: &'a [u8],
+    id: &'a [u8],
+    n: u64,
+) -> Answer
+    ensures { λ r. ⌜ r ≡ answerOf (ownFor n) (countedIn (now (file .entry)) (now (head .entry)) (now (slots .entry))
+        (pool (now (codes .entry)) (now (places .entry)) (now (values .entry))) (keyOf true (now (context .entry)) (now (id .entry))) n) ⌝ }
+{
+    let nodes = head[5];
+    let root = head[6];
+    let reason = lookup::nfind_indexed(
+        file,
+        tables_in(head),
+        slots,
         codes,
         places,
         values,

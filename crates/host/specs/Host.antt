@@ -71,6 +71,7 @@ abbrev pub answerOf : ℕ → Reason → Answer
 answerOf own (reason.Answered i form start len) = record { number = 0; which = 0; entry = i; form = form; start = start; len = len }
 answerOf own reason.StaleLength = fallback (number reason.StaleLength) own
 answerOf own reason.NoTree = fallback (number reason.NoTree) own
+answerOf own reason.IndexRoom = fallback (number reason.IndexRoom) own
 answerOf own reason.ZeroModulus = fallback (number reason.ZeroModulus) own
 answerOf own reason.NoEntry = fallback (number reason.NoEntry) own
 answerOf own (reason.TooFewSegments i) = fallback (number (reason.TooFewSegments i)) own

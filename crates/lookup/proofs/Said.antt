@@ -13,19 +13,20 @@ use types.Run.{OneOf, miss}
 use Rattle.text.proofs.Tests.{taken, left}
 use Rattle.lookup.specs.Text.{textOr, pluralText, IsText}
 use Rattle.lookup.specs.declared.Reason.{Reason}
-use Rattle.lookup.specs.declared.Reason.the-variants.{StaleLength, NoTree, ZeroModulus, NoEntry, TooFewSegments, Answered}
+use Rattle.lookup.specs.declared.Reason.the-variants.{StaleLength, NoTree, IndexRoom, ZeroModulus, NoEntry, TooFewSegments, Answered}
 use Rattle.lookup.specs.declared.Text.{Text}
 use Rattle.lookup.specs.declared.Text.the-variants.{Segment, Id, PluralId}
 use Rattle.lookup.proofs.Reason.{the-type}
 
 -- any reason but an answer leaves the caller's own text
-pub own-text : (own : Text) (r : Reason) → OneOf (0 ∷ 1 ∷ 2 ∷ 3 ∷ 4 ∷ []) (tagOf the-type r) → own ≡ textOr own r
+pub own-text : (own : Text) (r : Reason) → OneOf (0 ∷ 1 ∷ 2 ∷ 3 ∷ 4 ∷ 5 ∷ []) (tagOf the-type r) → own ≡ textOr own r
 own-text own StaleLength h = refl
 own-text own NoTree h = refl
+own-text own IndexRoom h = refl
 own-text own ZeroModulus h = refl
 own-text own NoEntry h = refl
 own-text own (TooFewSegments i) h = refl
-own-text own (Answered i form start len) h = absurd (miss (0 ∷ 1 ∷ 2 ∷ 3 ∷ 4 ∷ []) 5 tt h)
+own-text own (Answered i form start len) h = absurd (miss (0 ∷ 1 ∷ 2 ∷ 3 ∷ 4 ∷ 5 ∷ []) 6 tt h)
 
 -- with a count the caller's own text is the id for 1
 module _ (n : ℕ) (r : Reason) {x : Text} where

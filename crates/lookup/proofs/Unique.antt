@@ -18,6 +18,10 @@ use Rattle.lookup.proofs.find.Reads as find
 use Rattle.lookup.proofs.find.Kinds as find-kinds
 use Rattle.lookup.proofs.nfind.Reads as nfind
 use Rattle.lookup.proofs.nfind.Kinds as nfind-kinds
+use Rattle.lookup.proofs.find_indexed.Reads as find-indexed
+use Rattle.lookup.proofs.find_indexed.Kinds as find-indexed-kinds
+use Rattle.lookup.proofs.nfind_indexed.Reads as nfind-indexed
+use Rattle.lookup.proofs.nfind_indexed.Kinds as nfind-indexed-kinds
 use Rattle.lookup.proofs.number_of.Reads as number-of
 use Rattle.lookup.proofs.number_of.Kinds as number-of-kinds
 use Rattle.lookup.proofs.singular_text.Reads as singular-text
@@ -32,6 +36,12 @@ find-one κs a u v x y p q = p ∙ sym q
 
 pub nfind-one : One 2 nfind-kinds.ps nfind-kinds.r nfind.Post
 nfind-one κs a u v x y p q = p ∙ sym q
+
+pub find-indexed-one : One 4 find-indexed-kinds.ps find-indexed-kinds.r find-indexed.Post
+find-indexed-one κs a u v x y p q = p ∙ sym q
+
+pub nfind-indexed-one : One 2 nfind-indexed-kinds.ps nfind-indexed-kinds.r nfind-indexed.Post
+nfind-indexed-one κs a u v x y p q = p ∙ sym q
 
 pub number-of-one : One 0 number-of-kinds.ps number-of-kinds.r number-of.Post
 number-of-one κs a u v x y p q = p ∙ sym q

@@ -1,4 +1,4 @@
--- Why a lookup answers as it does. Document 01, "Numbers returned" and "The record", and the order of document 02, i. The entry with the key
+-- Why a lookup answers as it does. Document 01, "Numbers returned" and "The record", and the orders of document 02, d and i. The entry with the key
 -- is given, so that the same is said of every way to find it.
 use Prim.Native.Nat.{ℕ}
 use mathlib.Core.Bool.{true, false}
@@ -15,8 +15,10 @@ use Rattle.container_layout.specs.declared.Stretch.{Stretch}
 use Rattle.container_layout.specs.declared.Stretch.the-variants as stretch
 use Rattle.lookup_scan.specs.declared.Hit.{Hit}
 use Rattle.lookup_scan.specs.declared.Hit.the-variants as hit
+use Rattle.lookup_index.specs.declared.Sought.{Sought}
+use Rattle.lookup_index.specs.declared.Sought.the-variants as sought
 use Rattle.lookup.specs.declared.Reason.{Reason}
-use Rattle.lookup.specs.declared.Reason.the-variants.{StaleLength, NoTree, ZeroModulus, NoEntry, TooFewSegments, Answered}
+use Rattle.lookup.specs.declared.Reason.the-variants.{StaleLength, NoTree, IndexRoom, ZeroModulus, NoEntry, TooFewSegments, Answered}
 
 -- the segment that a form names, of entry i
 abbrev pub bySegment : ℕ → ℕ → Stretch → Reason
@@ -42,10 +44,27 @@ plural s t v h = elim (eqb (length s) (t .length)) [ true ↦ byRule s v h | fal
 abbrev pub singular : List ℕ → Tables → Hit → Reason
 singular s t h = plural s t (resolved.Form 0) h
 
+-- by lent slots: too few are refused after nodes that are no tree, and before a zero divisor
+abbrev pub fewSlots : Resolved → Reason
+fewSlots (resolved.Form form) = IndexRoom
+fewSlots resolved.ZeroModulus = IndexRoom
+fewSlots resolved.NoTree = NoTree
+
+abbrev pub bySlots : List ℕ → Resolved → Sought → Reason
+bySlots s v (sought.Found h) = byRule s v h
+bySlots s v sought.TooFew = fewSlots v
+
+unfoldable pub pluralIn : List ℕ → Tables → Resolved → Sought → Reason
+pluralIn s t v x = elim (eqb (length s) (t .length)) [ true ↦ bySlots s v x | false ↦ StaleLength ]
+
+abbrev pub singularIn : List ℕ → Tables → Sought → Reason
+singularIn s t x = pluralIn s t (resolved.Form 0) x
+
 -- the number of a reason
 abbrev pub number : Reason → ℕ
 number StaleLength = numberOf error.BadRecord
 number NoTree = numberOf error.BadRecord
+number IndexRoom = numberOf error.IndexRoom
 number ZeroModulus = numberOf error.ZeroModulus
 number NoEntry = 0
 number (TooFewSegments i) = 0

@@ -7,7 +7,7 @@ use lib.ListN.{length, take, drop}
 use lib.Dec.{leb, eqb}
 use denote.Ref.{RefT, now}
 use Rattle.lookup.specs.declared.Reason.{Reason}
-use Rattle.lookup.specs.declared.Reason.the-variants.{StaleLength, NoTree, ZeroModulus, NoEntry, TooFewSegments, Answered}
+use Rattle.lookup.specs.declared.Reason.the-variants.{StaleLength, NoTree, IndexRoom, ZeroModulus, NoEntry, TooFewSegments, Answered}
 use Rattle.lookup.specs.declared.Text.{Text}
 use Rattle.lookup.specs.declared.Text.the-variants.{Segment, Id, PluralId}
 
@@ -16,6 +16,7 @@ abbrev pub textOr : Text → Reason → Text
 textOr own (Answered i form start len) = Segment start len
 textOr own StaleLength = own
 textOr own NoTree = own
+textOr own IndexRoom = own
 textOr own ZeroModulus = own
 textOr own NoEntry = own
 textOr own (TooFewSegments i) = own

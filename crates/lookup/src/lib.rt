@@ -2,6 +2,7 @@
 // is copied. What follows from the entry with the key is said once, however that entry is found.
 use container_layout::Stretch;
 use container_layout::Tables;
+use lookup_index::Sought;
 use lookup_scan::Hit;
 use refusal::Error;
 use rules::Resolved;
@@ -9,15 +10,17 @@ ghost use mathlib.Core.Path.{_≡_};
 ghost use Rattle.rules.specs.Pool.{pool};
 ghost use Rattle.rules.specs.Answer.{resolvedOf};
 ghost use Rattle.lookup_scan.specs.Keys.{keyOf, lastWith};
-ghost use Rattle.lookup.specs.Lookup.{byEntry, singular, plural, number};
+ghost use Rattle.lookup_index.specs.Index.{soughtIn};
+ghost use Rattle.lookup.specs.Lookup.{byEntry, byRule, fewSlots, bySlots, singular, plural, singularIn, pluralIn, number};
 ghost use Rattle.lookup.specs.Text.{textOr, singularText, pluralText, IsText};
 
-// Why a lookup answers as it does, the first of these that holds: the file's length is not the record's; the rule's nodes are no tree; the
-// rule takes a remainder by zero; no entry has the key; the entry stores no segment of that form; the entry, the form, and the segment's
-// start and length.
+// Why a lookup answers as it does, the first of these that holds: the file's length is not the record's; the rule's nodes are no tree; fewer
+// slots are lent than the index uses, where one is; the rule takes a remainder by zero; no entry has the key; the entry stores no segment of
+// that form; the entry, the form, and the segment's start and length.
 pub enum Reason {
     StaleLength,
     NoTree,
+    IndexRoom,
     ZeroModulus,
     NoEntry,
     TooFewSegments(usize),
@@ -43,6 +46,37 @@ fn by_entry(file: &[u8], hit: Hit, form: u64) -> Reason
         return Reason::TooFewSegments(entry);
     };
     Reason::Answered(entry, form, at, n)
+}
+
+// What follows from the rule's value, and where it is a form from the entry with the key.
+fn by_rule(file: &[u8], value: Resolved, hit: Hit) -> Reason
+    ensures { λ r. ⌜ r ≡ byRule (now (file .entry)) value hit ⌝ }
+{
+    match value {
+        Resolved::Form(form) => by_entry(file, hit, form),
+        Resolved::ZeroModulus => Reason::ZeroModulus,
+        Resolved::NoTree => Reason::NoTree,
+    }
+}
+
+// Too few slots are refused before a remainder by zero, and after nodes that are no tree.
+fn few_slots(value: Resolved) -> Reason
+    ensures { λ r. ⌜ r ≡ fewSlots value ⌝ }
+{
+    if let Resolved::NoTree = value {
+        return Reason::NoTree;
+    }
+    Reason::IndexRoom
+}
+
+// The same as `by_rule`, of what was sought in lent slots.
+fn by_slots(file: &[u8], value: Resolved, sought: Sought) -> Reason
+    ensures { λ r. ⌜ r ≡ bySlots (now (file .entry)) value sought ⌝ }
+{
+    let Sought::Found(hit) = sought else {
+        return few_slots(value);
+    };
+    by_rule(file, value, hit)
 }
 
 // A lookup without a count: `gettext`, and with a context `pgettext`.
@@ -77,23 +111,68 @@ pub fn nfind<'a, 'b>(
         return Reason::StaleLength;
     }
     let resolved = rules_value::resolve(codes, places, values, nodes, root, n);
-    match resolved {
-        Resolved::Form(form) => {
-            let hit = lookup_scan::last_hit(file, t, given, context, id);
-            by_entry(file, hit, form)
-        }
-        Resolved::ZeroModulus => Reason::ZeroModulus,
-        Resolved::NoTree => Reason::NoTree,
-    }
+    let Resolved::Form(form) = resolved else {
+        return by_rule(file, resolved, Hit::Missing);
+    };
+    let hit = lookup_scan::last_hit(file, t, given, context, id);
+    by_rule(file, Resolved::Form(form), hit)
 }
 
-// Document 01's number.
+// A lookup without a count in lent slots.
+pub fn find_indexed(
+    file: &[u8],
+    t: Tables,
+    slots: &[u32],
+    given: bool,
+    context: &[u8],
+    id: &[u8],
+) -> Reason
+    ensures { λ r. ⌜ r ≡ singularIn (now (file .entry)) t
+        (soughtIn (now (file .entry)) t (now (slots .entry)) (keyOf given (now (context .entry)) (now (id .entry)))) ⌝ }
+{
+    let size = file.len();
+    if size != t.length {
+        return Reason::StaleLength;
+    }
+    let sought = lookup_index::find(file, t, slots, given, context, id);
+    by_slots(file, Resolved::Form(0), sought)
+}
+
+// A lookup with a count in lent slots.
+pub fn nfind_indexed<'a, 'b>(
+    file: &'a [u8],
+    t: Tables,
+    slots: &'a [u32],
+    codes: &'b [u8; 512],
+    places: &'b [u16; 1024],
+    values: &'b [u64; 512],
+    nodes: usize,
+    root: usize,
+    given: bool,
+    context: &'a [u8],
+    id: &'a [u8],
+    n: u64,
+) -> Reason
+    ensures { λ r. ⌜ r ≡ pluralIn (now (file .entry)) t (resolvedOf (pool (now (codes .entry)) (now (places .entry)) (now (values .entry))) nodes root n)
+        (soughtIn (now (file .entry)) t (now (slots .entry)) (keyOf given (now (context .entry)) (now (id .entry)))) ⌝ }
+{
+    let size = file.len();
+    if t.length != size {
+        return Reason::StaleLength;
+    }
+    let value = rules_value::resolve(codes, places, values, nodes, root, n);
+    let sought = lookup_index::find(file, t, slots, given, context, id);
+    by_slots(file, value, sought)
+}
+
+// Document 01's number, or document 02's.
 pub fn number_of(reason: Reason) -> u32
     ensures { λ r. ⌜ r ≡ number reason ⌝ }
 {
     match reason {
         Reason::StaleLength => refusal::number_of(Error::BadRecord),
         Reason::NoTree => refusal::number_of(Error::BadRecord),
+        Reason::IndexRoom => refusal::number_of(Error::IndexRoom),
         Reason::ZeroModulus => refusal::number_of(Error::ZeroModulus),
         Reason::NoEntry => 0,
         Reason::TooFewSegments(entry) => 0,

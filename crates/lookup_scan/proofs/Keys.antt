@@ -13,7 +13,7 @@ use Rattle.text.proofs.Tests.{and-none, and-assoc}
 use Rattle.text.proofs.Walk.{part-from}
 use Rattle.text.proofs.Same.{other-length}
 use Rattle.lookup_scan.specs.Keys.{keyOf}
-use Rattle.lookup_scan.specs.Private.{Sized}
+use Rattle.lookup_scan.specs.Promise.{Sized}
 use Rattle.lookup_scan.specs.declared.Size.{Size}
 use Rattle.lookup_scan.specs.declared.Size.the-variants.{Is, TooLong}
 

@@ -15,7 +15,8 @@ use Rattle.container_layout.specs.declared.Entry.the-variants as entries
 use Rattle.container_layout.specs.declared.Stretch.the-variants as stretch
 use Rattle.container_layout.proofs.Cells.{no-cell}
 use Rattle.lookup_scan.specs.Keys.{isKey, hitOf, lastIn, lastWith}
-use Rattle.lookup_scan.specs.Private.{hitIf, ScanFrom}
+use Rattle.lookup_scan.specs.Promise.{hitIf}
+use Rattle.lookup_scan.specs.Private.{ScanFrom}
 use Rattle.container_layout.specs.declared.Tables.{Tables}
 use Rattle.lookup_scan.specs.declared.Hit.{Hit}
 use Rattle.lookup_scan.specs.declared.Hit.the-variants as hit

@@ -1,32 +1,16 @@
 -- What the functions behind the public ones promise.
 use Prim.Native.Nat.{ℕ, _<_, _≤_}
 use mathlib.Core.Path.{_≡_}
-use mathlib.Core.Bool.{Bool, true, false}
+use mathlib.Core.Bool.{Bool, false}
 use mathlib.Core.List.{List}
 use lib.ListN.{length}
-use Rattle.lookup_scan.specs.Keys.{isKey, hitOf}
+use Rattle.lookup_scan.specs.Keys.{isKey}
 use Rattle.container_layout.specs.Mo.{hasCell, entry}
-use Rattle.lookup_scan.specs.declared.Hit.{Hit}
-use Rattle.lookup_scan.specs.declared.Hit.the-variants as hit
 use Rattle.container_layout.specs.declared.Tables.{Tables}
-use Rattle.lookup_scan.specs.declared.Size.{Size}
-use Rattle.lookup_scan.specs.declared.Size.the-variants.{Is, TooLong}
-
--- the key's length, or that no key of a file of that size can be so long
-abbrev pub Sizes : ℕ → List ℕ → Size → Type 0
-Sizes size key (Is n) = (n ≡ length key) × (n < size)
-Sizes size key TooLong = size ≤ length key
-
-pub record Sized (size : ℕ) (key : List ℕ) (r : Size) : Type 0 where
-  pub sizes : Sizes size key r
 
 -- entry i may have a key of n bytes; where it may not, it has none of that length
 pub record MayBe (s : List ℕ) (t : Tables) (i n : ℕ) (r : Bool) : Type 0 where
   pub no : r ≡ false → (key : List ℕ) → length key ≡ n → isKey s key (entry s t i) ≡ false
-
--- entry i, where it has the key
-unfoldable pub hitIf : List ℕ → Tables → List ℕ → ℕ → Hit
-hitIf s t key i = elim (isKey s key (entry s t i)) [ true ↦ hitOf i (entry s t i) | false ↦ hit.Missing ]
 
 -- no index from here on up to the count has its cell in the file
 pub record ScanFrom (s : List ℕ) (t : Tables) (r : ℕ) : Type 0 where

@@ -8,7 +8,8 @@ ghost use mathlib.Core.Path.{_≡_};
 ghost use lib.ListN.{length};
 ghost use Rattle.text.specs.Bytes.{same};
 ghost use Rattle.lookup_scan.specs.Keys.{keyOf, lastWith};
-ghost use Rattle.lookup_scan.specs.Private.{Sized, MayBe, hitIf, ScanFrom};
+ghost use Rattle.lookup_scan.specs.Promise.{Sized, hitIf};
+ghost use Rattle.lookup_scan.specs.Private.{MayBe, ScanFrom};
 
 // The entry with a key, and where its translation lies.
 pub enum Hit {
@@ -17,12 +18,12 @@ pub enum Hit {
 }
 
 // The length of a key, unless it is as long as the file.
-enum Size {
+pub enum Size {
     Is(usize),
     TooLong,
 }
 
-fn size_of(size: usize, given: bool, context: &[u8], id: &[u8]) -> Size
+pub fn size_of(size: usize, given: bool, context: &[u8], id: &[u8]) -> Size
     ensures { λ r. ⌜ Sized size (keyOf given (now (context .entry)) (now (id .entry))) r ⌝ }
 {
     if size <= id.len() {
@@ -43,7 +44,7 @@ fn key_is(key: &[u8], given: bool, context: &[u8], id: &[u8]) -> bool
     ensures { λ r. ⌜ r ≡ same (keyOf given (now (context .entry)) (now (id .entry))) (now (key .entry)) ⌝ }
 {
     if !given {
-        return text::equal(key, id);
+        return text_same::equal(key, id);
     }
     let n = context.len();
     if key.len() <= n {
@@ -52,11 +53,11 @@ fn key_is(key: &[u8], given: bool, context: &[u8], id: &[u8]) -> bool
     if key[n] != 4 {
         return false;
     }
-    if !text::equal(&key[..n], context) {
+    if !text_same::equal(&key[..n], context) {
         return false;
     }
     let after = n + 1;
-    text::equal(&key[after..], id)
+    text_same::equal(&key[after..], id)
 }
 
 // Whether entry i may have a key of n bytes: its original is long enough, and a NUL stands after so many. Most entries end here.
@@ -74,8 +75,16 @@ fn may_be(file: &[u8], t: Tables, i: usize, n: usize) -> bool
     file[end] == 0
 }
 
-// Entry i, where it has the key, which is n bytes long.
-fn hit_at(file: &[u8], t: Tables, i: usize, n: usize, given: bool, context: &[u8], id: &[u8]) -> Hit
+// Entry i, where it has the key, which is n bytes long. Every search asks this of an entry.
+pub fn hit_at(
+    file: &[u8],
+    t: Tables,
+    i: usize,
+    n: usize,
+    given: bool,
+    context: &[u8],
+    id: &[u8],
+) -> Hit
     requires { ⌜ n ≡ length (keyOf given (now context) (now id)) ⌝ }
     ensures { λ r. ⌜ r ≡ hitIf (now (file .entry)) t (keyOf given (now (context .entry)) (now (id .entry))) i ⌝ }
 {

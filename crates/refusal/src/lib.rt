@@ -14,6 +14,7 @@ pub enum Error {
     RuleTooLong,
     ZeroModulus,
     BadRecord,
+    IndexRoom,
 }
 
 // How a load stands.
@@ -36,6 +37,7 @@ pub fn number_of(e: Error) -> u32
         Error::RuleTooLong => 8,
         Error::ZeroModulus => 10,
         Error::BadRecord => 11,
+        Error::IndexRoom => 12,
     }
 }
 

@@ -1,6 +1,6 @@
 //! Catalogs and their lookups.
 
-use crate::{ffi, Bytes, Error, Live, ParseOptions, Status};
+use crate::{ffi, Bytes, Error, Live, ParseOptions, Scan, Search, Status};
 use std::fmt;
 use std::io::Read;
 
@@ -38,19 +38,26 @@ pub struct Answer<'t> {
 /// `Catalog<&[u8]>` reads a file where it lies; the texts that it finds live as long as the file. See [`Bytes`] for the others.
 ///
 /// The record, of a fixed size, is one allocation; no string is copied. A catalog never changes, and it is `Send` and `Sync`.
+///
+/// A lookup passes over the entries, unless the catalog has an index: see [`Catalog::indexed`] and [`Catalog::index_into`].
 #[derive(Clone)]
-pub struct Catalog<B = Vec<u8>> {
-    // `text` relies on these two belonging together: they are set by a load and by `empty`, and nowhere changed.
+pub struct Catalog<B = Vec<u8>, S = Scan> {
+    // `text` relies on these two belonging together: they are set by a load and by `empty`, and nowhere changed. Of the search it asks
+    // nothing: in any slots a lookup answers with an entry that has the key.
     file: B,
     record: Box<ffi::Record>,
+    search: S,
 }
 
-impl<B: Bytes> fmt::Debug for Catalog<B> {
+impl<B: Bytes, S: Search> fmt::Debug for Catalog<B, S> {
     fn fmt(&self, f: &mut fmt::Formatter<'_>) -> fmt::Result {
-        f.debug_struct("Catalog")
-            .field("bytes", &self.file.bytes().len())
-            .field("entries", &self.len())
-            .finish_non_exhaustive()
+        let mut said = f.debug_struct("Catalog");
+        said.field("bytes", &self.file.bytes().len());
+        said.field("entries", &self.len());
+        if let Some(slots) = self.search.slots() {
+            said.field("slots", &slots.len());
+        }
+        said.finish_non_exhaustive()
     }
 }
 
@@ -67,6 +74,7 @@ impl Catalog {
         Catalog {
             file: Vec::new(),
             record: ffi::empty(),
+            search: Scan,
         }
     }
 
@@ -94,7 +102,11 @@ impl<'f> Catalog<&'f [u8]> {
 impl<B: Bytes> Catalog<B> {
     /// A file and the record of its load.
     pub(crate) fn of(file: B, record: Box<ffi::Record>) -> Self {
-        Catalog { file, record }
+        Catalog {
+            file,
+            record,
+            search: Scan,
+        }
     }
 
     /// Loads the catalog that lies in `file`, which it keeps, with the default options.
@@ -104,6 +116,42 @@ impl<B: Bytes> Catalog<B> {
     /// The refusal of the load.
     pub fn parse_bytes(file: B) -> Result<Self, Error> {
         ParseOptions::new().parse_bytes(file)
+    }
+
+    /// The same catalog with an index, which it owns: one allocation of [`Catalog::slots`] numbers. Every lookup answers as before.
+    #[must_use]
+    pub fn indexed(self) -> Catalog<B, Vec<u32>> {
+        let mut slots = vec![0; self.slots()];
+        let number = ffi::index(self.file.bytes(), &self.record, &mut slots);
+        // proved: `enough-slots`, crates/gettext_c/proofs/Indexed.antt
+        debug_assert_eq!(number, 0);
+        Catalog {
+            file: self.file,
+            record: self.record,
+            search: slots,
+        }
+    }
+
+    /// The same catalog with an index in the first of the slots that are lent. Every lookup answers as before.
+    ///
+    /// # Errors
+    ///
+    /// [`Error::IndexRoom`] exactly if there are fewer than [`Catalog::slots`]; none is then written.
+    pub fn index_into(self, slots: &mut [u32]) -> Result<Catalog<B, &[u32]>, Error> {
+        Error::of(ffi::index(self.file.bytes(), &self.record, slots))?;
+        Ok(Catalog {
+            file: self.file,
+            record: self.record,
+            search: slots,
+        })
+    }
+}
+
+impl<B: Bytes, S: Search> Catalog<B, S> {
+    /// How many slots an index uses: the smallest power of two that is at least 1 and at least twice the number of entries.
+    #[must_use]
+    pub fn slots(&self) -> usize {
+        ffi::slots(&self.record)
     }
 
     /// How many entries the file has, the header counted in.
@@ -168,7 +216,12 @@ impl<B: Bytes> Catalog<B> {
     where
         B: Live<'c, 't>,
     {
-        let answer = ffi::gettext(self.file.bytes(), &self.record, msg_id.as_bytes());
+        let answer = ffi::gettext(
+            self.file.bytes(),
+            &self.record,
+            self.search.slots(),
+            msg_id.as_bytes(),
+        );
         self.text(answer, msg_id, msg_id)
     }
 
@@ -183,7 +236,13 @@ impl<B: Bytes> Catalog<B> {
     where
         B: Live<'c, 't>,
     {
-        let answer = ffi::ngettext(self.file.bytes(), &self.record, msg_id.as_bytes(), n);
+        let answer = ffi::ngettext(
+            self.file.bytes(),
+            &self.record,
+            self.search.slots(),
+            msg_id.as_bytes(),
+            n,
+        );
         self.text(answer, msg_id, msg_id_plural)
     }
 
@@ -194,7 +253,13 @@ impl<B: Bytes> Catalog<B> {
         B: Live<'c, 't>,
     {
         let (context, id) = (msg_context.as_bytes(), msg_id.as_bytes());
-        let answer = ffi::pgettext(self.file.bytes(), &self.record, context, id);
+        let answer = ffi::pgettext(
+            self.file.bytes(),
+            &self.record,
+            self.search.slots(),
+            context,
+            id,
+        );
         self.text(answer, msg_id, msg_id)
     }
 
@@ -211,7 +276,14 @@ impl<B: Bytes> Catalog<B> {
         B: Live<'c, 't>,
     {
         let (context, id) = (msg_context.as_bytes(), msg_id.as_bytes());
-        let answer = ffi::npgettext(self.file.bytes(), &self.record, context, id, n);
+        let answer = ffi::npgettext(
+            self.file.bytes(),
+            &self.record,
+            self.search.slots(),
+            context,
+            id,
+            n,
+        );
         self.text(answer, msg_id, msg_id_plural)
     }
 
@@ -221,7 +293,7 @@ impl<B: Bytes> Catalog<B> {
     where
         B: Live<'c, 't>,
     {
-        let answer = ffi::gettext(self.file.bytes(), &self.record, msg_id);
+        let answer = ffi::gettext(self.file.bytes(), &self.record, self.search.slots(), msg_id);
         self.bytes(answer, msg_id, msg_id)
     }
 
@@ -236,7 +308,13 @@ impl<B: Bytes> Catalog<B> {
     where
         B: Live<'c, 't>,
     {
-        let answer = ffi::ngettext(self.file.bytes(), &self.record, msg_id, n);
+        let answer = ffi::ngettext(
+            self.file.bytes(),
+            &self.record,
+            self.search.slots(),
+            msg_id,
+            n,
+        );
         self.bytes(answer, msg_id, msg_id_plural)
     }
 
@@ -246,7 +324,13 @@ impl<B: Bytes> Catalog<B> {
     where
         B: Live<'c, 't>,
     {
-        let answer = ffi::pgettext(self.file.bytes(), &self.record, msg_context, msg_id);
+        let answer = ffi::pgettext(
+            self.file.bytes(),
+            &self.record,
+            self.search.slots(),
+            msg_context,
+            msg_id,
+        );
         self.bytes(answer, msg_id, msg_id)
     }
 
@@ -262,7 +346,14 @@ impl<B: Bytes> Catalog<B> {
     where
         B: Live<'c, 't>,
     {
-        let answer = ffi::npgettext(self.file.bytes(), &self.record, msg_context, msg_id, n);
+        let answer = ffi::npgettext(
+            self.file.bytes(),
+            &self.record,
+            self.search.slots(),
+            msg_context,
+            msg_id,
+            n,
+        );
         self.bytes(answer, msg_id, msg_id_plural)
     }
 
@@ -289,7 +380,8 @@ impl<B: Bytes> Catalog<B> {
         (form.number == 0).then_some(form.form)
     }
 
-    // The file's part that an answer names, which lies in the file: `answer-inside` and `plural-inside`, crates/gettext_c/proofs/Right.antt.
+    // The file's part that an answer names, which lies in the file: `answer-inside`, `plural-inside` and `slots-inside`,
+    // crates/gettext_c/proofs/Right.antt.
     fn segment<'c, 't>(&'c self, answer: ffi::Answer) -> &'t [u8]
     where
         B: Live<'c, 't>,
@@ -306,8 +398,8 @@ impl<B: Bytes> Catalog<B> {
                 // SAFETY: the record was written by the load of these very bytes, or is the empty one, and neither has changed since:
                 // both are private and nothing here lends them to be written, bytes that are lent or shared cannot be written, and
                 // `Bytes`, which is closed, answers the same bytes at every call. In a file that was loaded the segment that a lookup
-                // names is UTF-8, and the empty record has none: `answer-right`, `plural-right`, `empty-absent` and `empty-plural`,
-                // crates/gettext_c/proofs/Right.antt.
+                // names is UTF-8, and the empty record has none: `answer-right`, `plural-right`, `empty-absent` and `empty-plural`, and for
+                // any slots `slots-right` and `slots-absent`, crates/gettext_c/proofs/Right.antt.
                 let text = unsafe { std::str::from_utf8_unchecked(self.segment(answer)) };
                 let which = Which::Segment {
                     entry: answer.entry,

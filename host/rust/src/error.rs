@@ -4,7 +4,7 @@ use std::error;
 use std::fmt;
 use std::io;
 
-/// Why a catalog was not loaded.
+/// Why a catalog was not loaded, or its index not built.
 #[derive(Debug)]
 #[non_exhaustive]
 pub enum Error {
@@ -24,6 +24,8 @@ pub enum Error {
     UnknownEncoding,
     /// The plural rule has over 512 bytes, white space at its ends left out.
     RuleTooLong,
+    /// Fewer slots are lent than the index uses, see [`Catalog::slots`](crate::Catalog::slots).
+    IndexRoom,
     /// The file could not be read. The library does not read files: it is [`ParseOptions::parse`](crate::ParseOptions::parse) that met it.
     Io(io::Error),
     /// The load would cost more than the limit, see [`ParseOptions::max_cost`](crate::ParseOptions::max_cost). The file was not looked at.
@@ -50,12 +52,13 @@ impl Error {
             Error::PluralParsing => Some(6),
             Error::UnknownEncoding => Some(7),
             Error::RuleTooLong => Some(8),
+            Error::IndexRoom => Some(12),
             Error::Unknown(number) => Some(*number),
             Error::Io(_) | Error::TooCostly { .. } => None,
         }
     }
 
-    /// The refusal that a load's number tells, 0 being none.
+    /// The refusal that a number tells, 0 being none.
     pub(crate) fn of(number: u32) -> Result<(), Error> {
         Err(match number {
             0 => return Ok(()),
@@ -67,6 +70,7 @@ impl Error {
             6 => Error::PluralParsing,
             7 => Error::UnknownEncoding,
             8 => Error::RuleTooLong,
+            12 => Error::IndexRoom,
             _ => Error::Unknown(number),
         })
     }
@@ -83,6 +87,7 @@ impl fmt::Display for Error {
             Error::PluralParsing => "invalid plural expression",
             Error::UnknownEncoding => "unknown encoding specified",
             Error::RuleTooLong => "plural expression over 512 bytes",
+            Error::IndexRoom => "too few slots for the index",
             Error::Io(error) => return error.fmt(f),
             Error::TooCostly { cost, limit } => {
                 return write!(f, "the load costs {cost}, and {limit} is the limit")
@@ -119,6 +124,8 @@ pub enum Status {
     ZeroModulus,
     /// The record does not belong to the file. It cannot come from a [`Catalog`](crate::Catalog), which keeps both.
     BadRecord,
+    /// Fewer slots are lent than the index uses. It cannot come from a [`Catalog`](crate::Catalog), which has none or enough.
+    IndexRoom,
     /// A number that this crate does not know: it was linked to a library of another version.
     Unknown(u32),
 }
@@ -131,6 +138,7 @@ impl Status {
             Status::Answered => 0,
             Status::ZeroModulus => 10,
             Status::BadRecord => 11,
+            Status::IndexRoom => 12,
             Status::Unknown(number) => number,
         }
     }
@@ -140,6 +148,7 @@ impl Status {
             0 => Status::Answered,
             10 => Status::ZeroModulus,
             11 => Status::BadRecord,
+            12 => Status::IndexRoom,
             _ => Status::Unknown(number),
         }
     }

@@ -2,8 +2,8 @@
 //! wrapped once, so that the rest of the crate calls safe functions.
 //!
 //! What makes every call here safe: the library asks nothing of the values that it is given (its functions have no `requires`), reads
-//! what is lent to be read and writes a record's arrays alone, in a load, keeps no pointer and has no state. A slice goes as pointer and length, an array as a pointer;
-//! a Rust slice's pointer is never null.
+//! what is lent to be read, writes a record's arrays alone, in a load, and an index's slots alone, in building it, keeps no pointer and has no
+//! state. A slice goes as pointer and length, an array as a pointer; a Rust slice's pointer is never null.
 
 use std::mem::size_of;
 
@@ -145,6 +145,62 @@ extern "C" {
         id_len: usize,
         n: u64,
     ) -> Answer;
+    fn gettext_c_slots(head: *const Head) -> usize;
+    fn gettext_c_index(
+        file: *const u8,
+        file_len: usize,
+        head: *const Head,
+        slots: *mut u32,
+        slots_len: usize,
+    ) -> u32;
+    fn gettext_c_gettext_indexed(
+        file: *const u8,
+        file_len: usize,
+        head: *const Head,
+        slots: *const u32,
+        slots_len: usize,
+        id: *const u8,
+        id_len: usize,
+    ) -> Answer;
+    fn gettext_c_pgettext_indexed(
+        file: *const u8,
+        file_len: usize,
+        head: *const Head,
+        slots: *const u32,
+        slots_len: usize,
+        context: *const u8,
+        context_len: usize,
+        id: *const u8,
+        id_len: usize,
+    ) -> Answer;
+    fn gettext_c_ngettext_indexed(
+        file: *const u8,
+        file_len: usize,
+        head: *const Head,
+        slots: *const u32,
+        slots_len: usize,
+        codes: *const [u8; 512],
+        places: *const [u16; 1024],
+        values: *const [u64; 512],
+        id: *const u8,
+        id_len: usize,
+        n: u64,
+    ) -> Answer;
+    fn gettext_c_npgettext_indexed(
+        file: *const u8,
+        file_len: usize,
+        head: *const Head,
+        slots: *const u32,
+        slots_len: usize,
+        codes: *const [u8; 512],
+        places: *const [u16; 1024],
+        values: *const [u64; 512],
+        context: *const u8,
+        context_len: usize,
+        id: *const u8,
+        id_len: usize,
+        n: u64,
+    ) -> Answer;
     fn gettext_c_rating(
         head: *const Head,
         codes: *const [u8; 512],
@@ -217,59 +273,166 @@ pub fn load(file: &[u8], rule: Option<&[u8]>, standard: bool, utf8: bool, r: &mu
     loaded.number
 }
 
-pub fn gettext(file: &[u8], r: &Record, id: &[u8]) -> Answer {
-    // SAFETY: both slices live for the call and are only read.
-    unsafe { gettext_c_gettext(file.as_ptr(), file.len(), &r.head, id.as_ptr(), id.len()) }
+/// How many slots the index of a record uses.
+pub fn slots(r: &Record) -> usize {
+    // SAFETY: the head lives for the call and is only read.
+    unsafe { gettext_c_slots(&r.head) }
 }
 
-pub fn pgettext(file: &[u8], r: &Record, context: &[u8], id: &[u8]) -> Answer {
-    // SAFETY: the three slices live for the call and are only read.
+/// Builds the index of a record and its file, and answers the number.
+pub fn index(file: &[u8], r: &Record, slots: &mut [u32]) -> u32 {
+    // SAFETY: the file and the head live for the call and are only read; the slots live for the call, which writes them.
     unsafe {
-        gettext_c_pgettext(
+        gettext_c_index(
             file.as_ptr(),
             file.len(),
             &r.head,
-            context.as_ptr(),
-            context.len(),
-            id.as_ptr(),
-            id.len(),
+            slots.as_mut_ptr(),
+            slots.len(),
         )
     }
 }
 
-pub fn ngettext(file: &[u8], r: &Record, id: &[u8], n: u64) -> Answer {
-    // SAFETY: the slices and the record's arrays live for the call and are only read.
-    unsafe {
-        gettext_c_ngettext(
-            file.as_ptr(),
-            file.len(),
-            &r.head,
-            &r.codes,
-            &r.places,
-            &r.values,
-            id.as_ptr(),
-            id.len(),
-            n,
-        )
+// The four lookups: in slots where an index is given, else by the scan. In each, what goes as a pointer lives for the call and is only read.
+
+pub fn gettext(file: &[u8], r: &Record, slots: Option<&[u32]>, id: &[u8]) -> Answer {
+    let (bytes, size) = (file.as_ptr(), file.len());
+    match slots {
+        // SAFETY: see above.
+        None => unsafe { gettext_c_gettext(bytes, size, &r.head, id.as_ptr(), id.len()) },
+        // SAFETY: see above.
+        Some(slots) => unsafe {
+            gettext_c_gettext_indexed(
+                bytes,
+                size,
+                &r.head,
+                slots.as_ptr(),
+                slots.len(),
+                id.as_ptr(),
+                id.len(),
+            )
+        },
     }
 }
 
-pub fn npgettext(file: &[u8], r: &Record, context: &[u8], id: &[u8], n: u64) -> Answer {
-    // SAFETY: the slices and the record's arrays live for the call and are only read.
-    unsafe {
-        gettext_c_npgettext(
-            file.as_ptr(),
-            file.len(),
-            &r.head,
-            &r.codes,
-            &r.places,
-            &r.values,
-            context.as_ptr(),
-            context.len(),
-            id.as_ptr(),
-            id.len(),
-            n,
-        )
+pub fn pgettext(
+    file: &[u8],
+    r: &Record,
+    slots: Option<&[u32]>,
+    context: &[u8],
+    id: &[u8],
+) -> Answer {
+    let (bytes, size) = (file.as_ptr(), file.len());
+    match slots {
+        // SAFETY: see above.
+        None => unsafe {
+            gettext_c_pgettext(
+                bytes,
+                size,
+                &r.head,
+                context.as_ptr(),
+                context.len(),
+                id.as_ptr(),
+                id.len(),
+            )
+        },
+        // SAFETY: see above.
+        Some(slots) => unsafe {
+            gettext_c_pgettext_indexed(
+                bytes,
+                size,
+                &r.head,
+                slots.as_ptr(),
+                slots.len(),
+                context.as_ptr(),
+                context.len(),
+                id.as_ptr(),
+                id.len(),
+            )
+        },
+    }
+}
+
+pub fn ngettext(file: &[u8], r: &Record, slots: Option<&[u32]>, id: &[u8], n: u64) -> Answer {
+    let (bytes, size) = (file.as_ptr(), file.len());
+    match slots {
+        // SAFETY: see above.
+        None => unsafe {
+            gettext_c_ngettext(
+                bytes,
+                size,
+                &r.head,
+                &r.codes,
+                &r.places,
+                &r.values,
+                id.as_ptr(),
+                id.len(),
+                n,
+            )
+        },
+        // SAFETY: see above.
+        Some(slots) => unsafe {
+            gettext_c_ngettext_indexed(
+                bytes,
+                size,
+                &r.head,
+                slots.as_ptr(),
+                slots.len(),
+                &r.codes,
+                &r.places,
+                &r.values,
+                id.as_ptr(),
+                id.len(),
+                n,
+            )
+        },
+    }
+}
+
+pub fn npgettext(
+    file: &[u8],
+    r: &Record,
+    slots: Option<&[u32]>,
+    context: &[u8],
+    id: &[u8],
+    n: u64,
+) -> Answer {
+    let (bytes, size) = (file.as_ptr(), file.len());
+    match slots {
+        // SAFETY: see above.
+        None => unsafe {
+            gettext_c_npgettext(
+                bytes,
+                size,
+                &r.head,
+                &r.codes,
+                &r.places,
+                &r.values,
+                context.as_ptr(),
+                context.len(),
+                id.as_ptr(),
+                id.len(),
+                n,
+            )
+        },
+        // SAFETY: see above.
+        Some(slots) => unsafe {
+            gettext_c_npgettext_indexed(
+                bytes,
+                size,
+                &r.head,
+                slots.as_ptr(),
+                slots.len(),
+                &r.codes,
+                &r.places,
+                &r.values,
+                context.as_ptr(),
+                context.len(),
+                id.as_ptr(),
+                id.len(),
+                n,
+            )
+        },
     }
 }
 

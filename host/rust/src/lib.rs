@@ -15,6 +15,10 @@
 //! assert_eq!(catalog.pgettext("month", "May"), "Mai");
 //! assert_eq!(catalog.gettext("not there"), "not there");
 //!
+//! // the same with an index beside it, for catalogs of many entries
+//! let catalog = Catalog::parse(File::open(path)?)?.indexed();
+//! assert_eq!(catalog.gettext("Your invoice"), "Ihre Rechnung");
+//!
 //! // a file that lies in memory already, read where it lies
 //! let file = std::fs::read(path)?;
 //! let catalog = ParseOptions::new().reading(Reading::Standard).parse_slice(&file)?;
@@ -39,11 +43,13 @@ mod bytes;
 mod catalog;
 mod error;
 mod ffi;
+mod index;
 mod options;
 
 pub use bytes::{Bytes, Live};
 pub use catalog::{Answer, Catalog, Which};
 pub use error::{Error, Status};
+pub use index::{Scan, Search};
 pub use options::{ParseOptions, Reading};
 
 /// Whether a text is UTF-8 by RFC 3629, as loading tests it.

@@ -660,3 +660,100 @@ fn russian_forms_in_both_readings() {
     assert_eq!(forms(Reading::Shipped), [0; 10]);
     assert_eq!(forms(Reading::Standard), [2, 0, 1, 1, 2, 2, 0, 1, 2, 0]);
 }
+
+/// A file of many keys, with contexts, plurals, and a key that comes again at the end.
+fn many() -> (Vec<u8>, Vec<String>) {
+    let keys: Vec<String> = (0..700)
+        .map(|i| match i % 3 {
+            0 => format!("key {i}"),
+            1 => format!("context\u{4}key {i}"),
+            _ => format!("a longer key, number {i}"),
+        })
+        .collect();
+    let texts: Vec<String> = (0..700).map(|i| format!("one {i}\0many {i}")).collect();
+    let mut entries: Vec<(&[u8], &[u8])> = keys
+        .iter()
+        .zip(&texts)
+        .map(|(k, t)| (k.as_bytes(), t.as_bytes()))
+        .collect();
+    entries.push((keys[0].as_bytes(), b"again\0and again"));
+    (made(&entries), keys)
+}
+
+#[test]
+fn an_index_answers_as_the_scan() {
+    let (file, keys) = many();
+    let scan = Catalog::parse_slice(&file).unwrap();
+    assert_eq!(scan.slots(), 2048);
+    let owned = scan.clone().indexed();
+    let mut slots = vec![7; 2050];
+    let lent = scan.clone().index_into(&mut slots).unwrap();
+    for key in keys.iter().map(String::as_str).chain(["", "none", "key"]) {
+        let (context, id) = key.split_once('\u{4}').unwrap_or(("context", key));
+        for n in [0, 1, 2] {
+            let answer = scan.answer_ngettext(key, "s", n);
+            assert_eq!(owned.answer_ngettext(key, "s", n), answer);
+            assert_eq!(lent.answer_ngettext(key, "s", n), answer);
+            let answer = scan.answer_npgettext(context, id, "s", n);
+            assert_eq!(owned.answer_npgettext(context, id, "s", n), answer);
+            assert_eq!(lent.answer_npgettext(context, id, "s", n), answer);
+        }
+        assert_eq!(owned.answer_gettext(key), scan.answer_gettext(key));
+        assert_eq!(lent.answer_gettext(key), scan.answer_gettext(key));
+        assert_eq!(owned.pgettext(context, id), scan.pgettext(context, id));
+        assert_eq!(lent.pgettext(context, id), scan.pgettext(context, id));
+        assert_eq!(
+            owned.gettext_bytes(key.as_bytes()),
+            scan.gettext_bytes(key.as_bytes())
+        );
+    }
+    assert_eq!(owned.gettext("key 0"), "again");
+    assert_eq!(owned.rating(), scan.rating());
+    assert_eq!(
+        format!("{owned:?}"),
+        format!(
+            "Catalog {{ bytes: {}, entries: 701, slots: 2048, .. }}",
+            file.len()
+        )
+    );
+    // slots behind those that are used stay
+    assert_eq!(slots[2048..], [7, 7]);
+}
+
+#[test]
+fn an_index_wants_its_slots() {
+    let (file, _) = many();
+    let scan = Catalog::parse_slice(&file).unwrap();
+    let mut slots = vec![7; 2047];
+    let refused = scan.clone().index_into(&mut slots).unwrap_err();
+    assert!(matches!(refused, Error::IndexRoom));
+    assert_eq!(refused.number(), Some(12));
+    assert!(slots.iter().all(|&slot| slot == 7));
+    slots.push(7);
+    assert_eq!(
+        scan.index_into(&mut slots).unwrap().gettext("key 3"),
+        "one 3"
+    );
+    // the empty catalog uses one slot
+    assert_eq!(Catalog::empty().slots(), 1);
+    assert!(Catalog::empty().index_into(&mut []).is_err());
+    assert_eq!(Catalog::empty().indexed().gettext("a"), "a");
+}
+
+#[test]
+fn an_indexed_catalog_is_data() {
+    let shop: HashMap<&str, Arc<Catalog<Vec<u8>, Vec<u32>>>> = HashMap::from([(
+        "de",
+        Arc::new(Catalog::parse(File::open(DE).unwrap()).unwrap().indexed()),
+    )]);
+    let read = std::thread::scope(|s| {
+        s.spawn(|| shop["de"].pgettext("month", "May"))
+            .join()
+            .unwrap()
+    });
+    assert_eq!(read, "Mai");
+    // a text found in a file that is lent outlives catalog and index
+    let file = g();
+    let text = Catalog::parse_slice(&file).unwrap().indexed().gettext("a");
+    assert_eq!(text.as_ptr(), &file[46]);
+}

@@ -1,7 +1,6 @@
 -- The length is tested, then the rule's value decides; a form is sought in the last entry with the key. Assumes nothing.
-use mathlib.Core.Path.{refl, sym, ap, _∙_}
-use Rattle.lookup.specs.Lookup.{byEntry}
-use Rattle.lookup.proofs.Reasons.{stale, by-rule}
+use mathlib.Core.Path.{sym}
+use Rattle.lookup.proofs.Reasons.{stale, by-no-form, by-form}
 use borrow.Author.Needs.{needs}
 use Rattle.lookup.proofs.nfind.Statement.{statement}
 use Rattle.lookup.proofs.nfind.Tie as tie
@@ -15,26 +14,20 @@ resolve-requires c κs = search needs
 enum-known-resolved : tie.Need-enum-known-resolved
 enum-known-resolved c = search needs
 
+by-rule-requires : tie.Need-by-rule-requires
+by-rule-requires c κs = search needs
+
+returns-2 : tie.Need-returns-2
+returns-2 c = by-no-form _ _ _ _ (sym (c .before .before .before .if1 .left)) (c .before .before .resolve .ensures) (c .before .match .keys2) (c .by-rule .ensures)
+
 last-hit-requires : tie.Need-last-hit-requires
 last-hit-requires c κs = search needs
 
-by-entry-requires : tie.Need-by-entry-requires
-by-entry-requires c κs = search needs
-
-enum-told : tie.Need-enum-told
-enum-told c = search needs
-
-enum-told-2 : tie.Need-enum-told-2
-enum-told-2 c = search needs
-
-returns-2 : tie.Need-returns-2
-returns-2 c = by-rule _ _ _ _ (sym (c .before .before .before .before .before .before .if1 .left)) (c .before .before .before .before .before .resolve .ensures) (c .before .before .before .resolved .given .1) (c .by-entry .ensures ∙ ap (byEntry (c .before .before .before .before .before .before .before .before .before .before .before .args .file .now) _) (c .before .last-hit .ensures))
+by-rule-requires-2 : tie.Need-by-rule-requires-2
+by-rule-requires-2 c κs = search needs
 
 returns-3 : tie.Need-returns-3
-returns-3 c = by-rule _ _ _ _ (sym (c .before .before .before .if1 .left)) (c .before .before .resolve .ensures) (c .enum-told .given .1) refl
-
-returns-4 : tie.Need-returns-4
-returns-4 c = by-rule _ _ _ _ (sym (c .before .before .before .if1 .left)) (c .before .before .resolve .ensures) (c .enum-told2 .given .1) refl
+returns-3 c = by-form _ _ _ _ (sym (c .before .before .before .before .before .before .if1 .left)) (c .before .before .before .before .before .resolve .ensures) (c .before .before .before .resolved .given .1) (c .before .last-hit .ensures) (c .by-rule2 .ensures)
 
 pub nfind-spec : {M : Type 1} → statement M
 nfind-spec =
@@ -43,10 +36,8 @@ nfind-spec =
     returns
     resolve-requires
     enum-known-resolved
-    last-hit-requires
-    by-entry-requires
-    enum-told
-    enum-told-2
+    by-rule-requires
     returns-2
-    returns-3
-    returns-4)
+    last-hit-requires
+    by-rule-requires-2
+    returns-3)

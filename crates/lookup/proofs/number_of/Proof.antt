@@ -26,6 +26,12 @@ number-of-requires-3 c κs = search needs
 enum-told-4 : tie.Need-enum-told-4
 enum-told-4 c = search needs
 
+number-of-requires-4 : tie.Need-number-of-requires-4
+number-of-requires-4 c κs = search needs
+
+enum-told-5 : tie.Need-enum-told-5
+enum-told-5 c = search needs
+
 enum-known-reason : tie.Need-enum-known-reason
 enum-known-reason c = search needs
 
@@ -48,7 +54,10 @@ returns-5 : tie.Need-returns-5
 returns-5 c = search needs
 
 returns-6 : tie.Need-returns-6
-returns-6 c = told number (c .before .reason2 .given .1)
+returns-6 c = search needs
+
+returns-7 : tie.Need-returns-7
+returns-7 c = told number (c .before .reason2 .given .1)
 
 pub number-of-spec : {M : Type 1} → statement M
 number-of-spec =
@@ -61,6 +70,8 @@ number-of-spec =
     enum-told-3
     number-of-requires-3
     enum-told-4
+    number-of-requires-4
+    enum-told-5
     enum-known-reason
     enum-known-reason-2
     returns
@@ -68,4 +79,5 @@ number-of-spec =
     returns-3
     returns-4
     returns-5
-    returns-6)
+    returns-6
+    returns-7)
