@@ -1,5 +1,3 @@
-pub mod Sets
-pub mod Trimming
-pub mod Middle
-pub mod Unique
+pub mod Encodings
+pub mod Edges
 pub mod Cases
