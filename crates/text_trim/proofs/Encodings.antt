@@ -50,11 +50,11 @@ shape (a ∷ b ∷ []) = ltb 0xBF a && within tail b
 shape (a ∷ b ∷ c ∷ []) = ltb 0xBF a && (within tail b && within tail c)
 shape (a ∷ b ∷ c ∷ d ∷ e) = false
 
-abbrev each : (List ℕ → Bool) → Chars → Bool
+abbrev pub each : (List ℕ → Bool) → Chars → Bool
 each f [] = true
 each f (e ∷ cs) = f e && each f cs
 
-each-at : (f : List ℕ → Bool) (cs : Chars) → each f cs ≡ true → {e : List ℕ} → In e cs → f e ≡ true
+pub each-at : (f : List ℕ → Bool) (cs : Chars) → each f cs ≡ true → {e : List ℕ} → In e cs → f e ≡ true
 each-at f (d ∷ cs) h (here p) = rw p (and-left (f d) (each f cs) h)
 each-at f (d ∷ cs) h (there i) = each-at f cs (and-right (f d) (each f cs) h) i
 

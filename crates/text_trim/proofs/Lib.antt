@@ -1,3 +1,6 @@
 pub mod Encodings
 pub mod Edges
+pub mod Backs
+pub mod Middle
+pub mod Whites
 pub mod Cases

@@ -4,7 +4,7 @@ ghost use mathlib.Core.List.{[], _∷_};
 ghost use Prim.Native.Nat.{_+_, _≤_};
 ghost use lib.ListN.{length, getD};
 ghost use Rattle.text_trim.specs.Trim.{charsOf, whiteSpace, lead, edge, trim, trimEnd, Trims};
-ghost use Rattle.text_trim.specs.Private.{Last};
+ghost use Rattle.text_trim.specs.Private.{threeIf, endsSo, Last};
 
 // The characters that are trimmed: of header names, values and rules all of Unicode's White_Space, of names inside Plural-Forms six bytes,
 // of a charset label five.
@@ -44,47 +44,76 @@ fn one_byte(set: Set, b: u8) -> usize
     0
 }
 
-// The bytes of the characters 2000 to 205F after their first, E2.
-fn after_e2(b: u8, c: u8) -> usize
-    ensures { λ r. ⌜ r ≡ lead whiteSpace (226 ∷ b ∷ c ∷ []) ⌝ }
+// After byte C2: 85 and A0.
+fn after_c2(b: u8) -> usize
+    ensures { λ r. ⌜ r ≡ lead whiteSpace (0xC2 ∷ b ∷ []) ⌝ }
 {
-    if b == 0x81 && c == 0x9F {
-        return 3; // 205F
+    if b == 0x85 {
+        return 2;
     }
-    if b != 0x80 {
-        return 0;
-    }
-    if 0x80 <= c && c <= 0x8A {
-        return 3; // 2000 to 200A
-    }
-    if c == 0xA8 || c == 0xA9 {
-        return 3; // 2028, 2029
-    }
-    if c == 0xAF {
-        return 3; // 202F
+    if b == 0xA0 {
+        return 2;
     }
     0
 }
 
-// How many bytes the white character has that begins with a, where a is not ASCII and b and c are the next bytes. It is asked of such a byte
-// only: one below 128 is a character by itself.
+// After the bytes E2 80: 2000 to 200A, 2028, 2029, 202F.
+fn after_e2_80(c: u8) -> usize
+    ensures { λ r. ⌜ r ≡ lead whiteSpace (0xE2 ∷ 0x80 ∷ c ∷ []) ⌝ }
+{
+    if c < 0x80 {
+        return 0;
+    }
+    if c <= 0x8A {
+        return 3;
+    }
+    if c == 0xA8 {
+        return 3;
+    }
+    if c == 0xA9 {
+        return 3;
+    }
+    if c == 0xAF {
+        return 3;
+    }
+    0
+}
+
+// Three bytes, if the last two are these.
+fn three(b: u8, c: u8, second: u8, third: u8) -> usize
+    ensures { λ r. ⌜ r ≡ threeIf second third b c ⌝ }
+{
+    if b != second {
+        return 0;
+    }
+    if c != third {
+        return 0;
+    }
+    3
+}
+
+// How many bytes the white character has that begins with a, where b and c are the next bytes. It is asked of an a that is not ASCII only:
+// a byte below 128 is a character by itself.
 fn wide(a: u8, b: u8, c: u8) -> usize
     requires { ⌜ 128 ≤ a ⌝ }
     ensures { λ r. ⌜ r ≡ lead whiteSpace (a ∷ b ∷ c ∷ []) ⌝ }
 {
-    if a == 0xC2 && (b == 0x85 || b == 0xA0) {
-        return 2;
+    if a == 0xC2 {
+        return after_c2(b);
     }
-    if a == 0xE2 {
-        return after_e2(b, c);
+    if a == 0xE1 {
+        return three(b, c, 0x9A, 0x80); // 1680
     }
-    if a == 0xE1 && b == 0x9A && c == 0x80 {
-        return 3; // 1680
+    if a == 0xE3 {
+        return three(b, c, 0x80, 0x80); // 3000
     }
-    if a == 0xE3 && b == 0x80 && c == 0x80 {
-        return 3; // 3000
+    if a != 0xE2 {
+        return 0;
     }
-    0
+    if b == 0x80 {
+        return after_e2_80(c);
+    }
+    three(b, c, 0x81, 0x9F) // 205F
 }
 
 // The byte at a place, or 0, which is in no white character.
@@ -112,7 +141,19 @@ fn first_char(s: &[u8], set: Set) -> usize
     }
 }
 
-// The same of the last character.
+// Whether the last k bytes are a character of the set.
+fn ends_so(s: &[u8], k: usize, set: Set) -> bool
+    ensures { λ r. ⌜ r ≡ endsSo (charsOf set) k (now (s .entry)) ⌝ }
+{
+    let n = s.len();
+    if n < k {
+        return false;
+    }
+    let at = n - k;
+    first_char(&s[at..], set) == k
+}
+
+// How many bytes the last character has, if it is of the set: 0 where none is.
 fn last_char(s: &[u8], set: Set) -> usize
     ensures { λ r. ⌜ Last (charsOf set) (now (s .entry)) r ⌝ }
 {
@@ -120,18 +161,15 @@ fn last_char(s: &[u8], set: Set) -> usize
     if n == 0 {
         return 0;
     }
-    if s[n - 1] < 128 {
-        return first_char(&s[n - 1..], set);
+    let b = s[n - 1];
+    if b < 128 {
+        return one_byte(set, b);
     }
-    if 2 <= n {
-        if first_char(&s[n - 2..], set) == 2 {
-            return 2;
-        }
+    if ends_so(s, 2, set) {
+        return 2;
     }
-    if 3 <= n {
-        if first_char(&s[n - 3..], set) == 3 {
-            return 3;
-        }
+    if ends_so(s, 3, set) {
+        return 3;
     }
     0
 }
