@@ -30,6 +30,7 @@ led (e ∷ cs) s =
     not-first : {d : List ℕ} (t : List ℕ) → begins e s ≡ false → Starts cs s → In d (e ∷ cs) → s ≡ d ++ t → ⊥
     not-first t h f (here p) q = never (sym h ∙ rw (q, p) (begins-first e t))
     not-first t h f (there i) q = f _ t i q
+
     later : begins e s ≡ false → Led cs s (lead cs s) → Led (e ∷ cs) s (lead (e ∷ cs) s)
     later h (some d t i q n) = some d t (there i) q (left _ _ h ∙ n)
     later h (none f n) = none (λ d t i q. not-first t h f i q) (left _ _ h ∙ n)

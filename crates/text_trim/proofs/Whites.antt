@@ -82,11 +82,32 @@ unfolding lead begins encode
 all-E280 = refl
 
 module _ (b : ℕ) (h : b < 256) where
-  pub c2-is : ofC2 b ≡ lead whiteSpace (0xC2 ∷ b ∷ [])
+  c2-is : ofC2 b ≡ lead whiteSpace (0xC2 ∷ b ∷ [])
   c2-is = eqb-true _ _ (below-at 256 (λ b. eqb (ofC2 b) (lead whiteSpace (0xC2 ∷ b ∷ []))) all-C2 b h)
 
-  pub e280-is : ofE280 b ≡ lead whiteSpace (0xE2 ∷ 0x80 ∷ b ∷ [])
+  pub c2-85 : b ≡ 0x85 → 2 ≡ lead whiteSpace (0xC2 ∷ b ∷ [])
+  c2-85 e = (rw e) ∙ c2-is
+
+  pub c2-a0 : b ≡ 0xA0 → 2 ≡ lead whiteSpace (0xC2 ∷ b ∷ [])
+  c2-a0 e = (rw e) ∙ c2-is
+
+  pub c2-no : (b ≡ 0x85 → ⊥) → (b ≡ 0xA0 → ⊥) → 0 ≡ lead whiteSpace (0xC2 ∷ b ∷ [])
+  c2-no e f = (rw (ofC2, ne-eqb b 0x85 e, ne-eqb b 0xA0 f)) ∙ c2-is
+
+  e280-is : ofE280 b ≡ lead whiteSpace (0xE2 ∷ 0x80 ∷ b ∷ [])
   e280-is = eqb-true _ _ (below-at 256 (λ c. eqb (ofE280 c) (lead whiteSpace (0xE2 ∷ 0x80 ∷ c ∷ []))) all-E280 b h)
+
+  pub e280-low : b < 0x80 → 0 ≡ lead whiteSpace (0xE2 ∷ 0x80 ∷ b ∷ [])
+  e280-low l = (rw (ofE280, lt-ltb b 0x80 l)) ∙ e280-is
+
+  pub e280-spaces : 0x80 ≤ b → b ≤ 0x8A → 3 ≡ lead whiteSpace (0xE2 ∷ 0x80 ∷ b ∷ [])
+  e280-spaces l k = (rw (ofE280, le-ltb b 0x80 l, le-leb b 0x8A k)) ∙ e280-is
+
+  pub e280-one : (x : ℕ) → 3 ≡ ofE280 x → b ≡ x → 3 ≡ lead whiteSpace (0xE2 ∷ 0x80 ∷ b ∷ [])
+  e280-one x p e = p ∙ rw (← e) (e280-is)
+
+  pub e280-no : 0x8A < b → (b ≡ 0xA8 → ⊥) → (b ≡ 0xA9 → ⊥) → (b ≡ 0xAF → ⊥) → 0 ≡ lead whiteSpace (0xE2 ∷ 0x80 ∷ b ∷ [])
+  e280-no l e f g = (rw (ofE280, le-ltb b 0x80 (omega arith), lt-leb b 0x8A l, ne-eqb b 0xA8 e, ne-eqb b 0xA9 f, ne-eqb b 0xAF g)) ∙ e280-is
 
 pub three-no : (x y b c : ℕ) → (b ≡ x → ⊥) → 0 ≡ threeIf x y b c
 unfolding begins
@@ -109,6 +130,7 @@ missing cs a b s h = lead-none cs (a ∷ b ∷ s) (λ e t i q. no e t (each-at (
   where
     same-two : not (eqb a a && eqb b b) ≡ true → ⊥
     same-two h = never (rw (eq-eqb a a refl, eq-eqb b b refl) at h)
+
     no : (e t : List ℕ) → misses a b e ≡ true → a ∷ b ∷ s ≡ e ++ t → ⊥
     no [] t h q = same-two h
     no (x ∷ []) t h q = let p : x ≡ a = cc in same-two (rw p at h)
@@ -190,11 +212,15 @@ begins-three (three a b c x y z u v) (d ∷ f ∷ []) = rw (nonzero c 0 (omega a
 begins-three (three a b c x y z u v) (d ∷ f ∷ g ∷ s) = refl
 
 module _ (set : Set) (s : List ℕ) where
-  pub lead-ascii : getD s 0 0 < 0x80 → lead (charsOf set) (getD s 0 0 ∷ []) ≡ lead (charsOf set) s
-  lead-ascii h = lead-same (charsOf set) (getD s 0 0 ∷ []) s (λ e i. begins-ascii (shape-of (code set) i) s h)
+  pub first-ascii : {a r : ℕ} → a ≡ getD s 0 0 → a < 0x80 → r ≡ lead (charsOf set) (a ∷ []) → r ≡ lead (charsOf set) s
+  first-ascii e h p =
+      let z = lead-same (charsOf set) (getD s 0 0 ∷ []) s (λ x i. begins-ascii (shape-of (code set) i) s (omega arith)) in
+      p ∙ rw e z
 
-  pub lead-three : lead (charsOf set) (getD s 0 0 ∷ getD s 1 0 ∷ getD s 2 0 ∷ []) ≡ lead (charsOf set) s
-  lead-three = lead-same (charsOf set) (getD s 0 0 ∷ getD s 1 0 ∷ getD s 2 0 ∷ []) s (λ e i. begins-three (shape-of (code set) i) s)
+  pub first-wide : {a b c r : ℕ} → a ≡ getD s 0 0 → b ≡ getD s 1 0 → c ≡ getD s 2 0 → set ≡ WhiteSpace → r ≡ lead whiteSpace (a ∷ b ∷ c ∷ []) → r ≡ lead (charsOf set) s
+  first-wide e f g k p =
+      let z = lead-same (charsOf set) (getD s 0 0 ∷ getD s 1 0 ∷ getD s 2 0 ∷ []) s (λ x i. begins-three (shape-of (code set) i) s) in
+      p ∙ rw (e, f, g) (rw k at z) ∙ ap (λ (x : Set). lead (charsOf x) s) (sym k)
 
 -- a set of bytes below 128 has no other character
 abbrev single : List ℕ → Bool
@@ -208,10 +234,23 @@ high-none set f s h = lead-none (charsOf set) s (λ e t i q. no (shape-of (code 
     no (two a b x y z) t l q = omega arith
     no (three a b c x y z u v) t l q = omega arith
 
-pub high-six : (s : List ℕ) → 128 ≤ getD s 0 0 → lead six s ≡ 0
+pub high-six : (set : Set) (s : List ℕ) {a : ℕ} → a ≡ getD s 0 0 → 128 ≤ a → set ≡ Six → 0 ≡ lead (charsOf set) s
 unfolding encode
-high-six s h = high-none Six refl s h
+high-six set s e h k = rw k (sym (high-none Six refl s (omega arith)))
 
-pub high-label : (s : List ℕ) → 128 ≤ getD s 0 0 → lead label s ≡ 0
+pub high-label : (set : Set) (s : List ℕ) {a : ℕ} → a ≡ getD s 0 0 → 128 ≤ a → set ≡ Label → 0 ≡ lead (charsOf set) s
 unfolding encode
-high-label s h = high-none Label refl s h
+high-label set s e h k = rw k (sym (high-none Label refl s (omega arith)))
+
+-- byte 11 by itself
+pub eleven-white : (set : Set) → set ≡ WhiteSpace → 1 ≡ lead (charsOf set) (11 ∷ [])
+unfolding lead begins encode
+eleven-white set e = rw e
+
+pub eleven-six : (set : Set) → set ≡ Six → 1 ≡ lead (charsOf set) (11 ∷ [])
+unfolding lead begins encode
+eleven-six set e = rw e
+
+pub eleven-label : (set : Set) → set ≡ Label → 0 ≡ lead (charsOf set) (11 ∷ [])
+unfolding lead begins encode
+eleven-label set e = rw e
