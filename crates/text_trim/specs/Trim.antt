@@ -9,7 +9,7 @@ use mathlib.Core.List.{List, [], _∷_, _++_, map}
 use lib.Dec.{eqb}
 use lib.ListN.{length, drop}
 use Rattle.text.specs.Bytes.{begins}
-use Rattle.text_utf8.specs.Scalar.{encode}
+unfoldable pub use Rattle.text_utf8.specs.Scalar.{encode}
 use Rattle.text_trim.specs.declared.Set.{Set}
 use Rattle.text_trim.specs.declared.Set.the-variants.{WhiteSpace, Six, Label}
 use Rattle.text_trim.specs.declared.Part.{Part}
