@@ -21,7 +21,7 @@ fn eleven(set: Set) -> usize
     match set {
         Set::WhiteSpace => 1,
         Set::Six => 1,
-        Set::Label => 0,
+        Set::Label => 0, // a label keeps it
     }
 }
 
