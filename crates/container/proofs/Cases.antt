@@ -79,7 +79,7 @@ abbrev pub computed : Row → ℕ × ℕ
 computed r = seen (load plain [] (r .file))
 
 pub rows-hold : map computed rows ≡ map said rows
-unfolding load entriesFrom entryStep header ruleAt readAt originalOf headOf orderOf word string contextEnd idStart idEnd context id utf8 rest front trim trimStart trimEnd edgeAfter lead encode begins
+unfolding load entriesFrom entryStep header ruleAt readAt originalOf headOf orderOf word string contextEnd idStart idEnd context id utf8 rest front trim trimStart trimEnd edgeAfter lead encode
     same begins first cut every named lastOf charset plural metadata utf8Label
 rows-hold = refl
 

@@ -2,7 +2,7 @@
 -- accepts a file exactly if these hold, with these tables and this rule (`accepted-exactly`).
 use Prim.Native.Nat.{ℕ, _<_, _≤_}
 use mathlib.Core.Path.{_≡_}
-use mathlib.Core.Bool.{Bool, true, false, _||_}
+use mathlib.Core.Bool.{true, false, _||_}
 use mathlib.Core.List.{List, []}
 use lib.ListN.{length, take, drop}
 use Rattle.refusal.specs.declared.Error.{Error}

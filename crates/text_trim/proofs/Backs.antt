@@ -1,15 +1,14 @@
 -- The characters at the end of a text: what stands before them. Assumes nothing.
 use Prim.Native.Nat.{ℕ, suc, _+_, _<_, _≤_}
 use mathlib.Core.Path.{_≡_, refl, sym, ap, _∙_}
-use mathlib.Core.Bool.{Bool, true, false}
-use mathlib.Core.List.{List, [], _∷_, _++_, append-assoc, append-nil, append-cancel-left}
+use mathlib.Core.List.{List, [], _∷_, _++_, append-assoc, append-nil}
 use native.Mathlib.Omega.{arith}
 use lib.ListN.{length, take, drop, length-append, take-append-drop}
 use lib.Seq.{take-append-seam, take-append-le, drop-append-le, drop-append-seam}
 use lib.Dec.{leb, eqb}
 use borrow.Author.Tests.{eqb-true, eqb-false, eq-eqb, leb-true, leb-false}
 use Rattle.text.proofs.Tests.{taken, left, by-test}
-use Rattle.text_trim.specs.Trim.{Chars, In, Run, end, char, Starts, Ends, edge, trimEnd}
+use Rattle.text_trim.specs.Trim.{Chars, In, Run, end, char, Ends, edge, trimEnd}
 use Rattle.text_trim.proofs.Encodings.{Code, solid, apart}
 use Rattle.text_trim.proofs.Edges.{white-edge, edge-white}
 

@@ -1,9 +1,8 @@
 -- Texts trimmed of each set, computed from the definition. Assumes nothing.
 use Prim.Native.Nat.{ℕ}
 use mathlib.Core.Path.{_≡_, refl}
-use mathlib.Core.Bool.{Bool, true, false, _&&_}
 use mathlib.Core.List.{List, [], _∷_, _++_, map}
-use Rattle.text.specs.Bytes.{bytes, begins, same}
+use Rattle.text.specs.Bytes.{bytes, begins}
 use Rattle.text_utf8.specs.Scalar.{encode}
 use Rattle.text_trim.specs.Trim.{Chars, charsOf, whiteSpace, trim, trimStart, trimEnd, lead, edgeAfter}
 use Rattle.text_trim.specs.declared.Set.the-variants.{WhiteSpace, Six, Label}
@@ -64,8 +63,7 @@ pub each-trimmed : map (λ e. trim whiteSpace (between e)) whiteSpace ≡ map (�
 unfolding trim trimStart trimEnd edgeAfter lead begins encode
 each-trimmed = refl
 
--- characters that look white and are not of White_Space, the first and the last among them: 1C to 1F, 180E, 200B, 2060, FEFF, and the
--- neighbours of the 25
+-- characters that look white and are not of White_Space, the neighbours of the 25, and one of four bytes
 abbrev pub alike : Chars
 alike =
     map encode

@@ -1,11 +1,11 @@
 -- The characters at the front of a text, one by one: how many bytes they have, and what stands behind them. Assumes nothing.
 use Prim.Native.Nat.{ℕ, zero, suc, _+_, _-_, _<_, _≤_}
 use mathlib.Core.Path.{_≡_, refl, sym, ap, _∙_}
-use mathlib.Core.Bool.{true, false}
+use mathlib.Core.Bool.{false}
 use mathlib.Core.List.{List, [], _∷_, _++_, append-assoc, append-nil}
 use native.Mathlib.Omega.{arith}
-use lib.ListN.{length, drop, length-append, length-drop}
-use lib.Seq.{drop-append-seam, drop-append-add, drop-drop, drop-length}
+use lib.ListN.{length, drop, length-append}
+use lib.Seq.{drop-append-seam, drop-append-add, drop-length}
 use Rattle.text.specs.Bytes.{begins}
 use Rattle.text.proofs.Tests.{never, taken, left, by-test}
 use Rattle.text_trim.specs.Trim.{Chars, In, here, there, Run, end, char, Starts, lead, edgeAfter, edge, trimStart}

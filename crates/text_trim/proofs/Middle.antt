@@ -1,5 +1,5 @@
 -- What `trim` gives is the middle of the text between its white ends, and there is no other. Assumes nothing.
-use Prim.Native.Nat.{ℕ, _+_, _<_, _≤_}
+use Prim.Native.Nat.{ℕ, _+_, _<_}
 use mathlib.Core.Path.{_≡_, refl, sym, ap, _∙_}
 use mathlib.Core.List.{List, [], _∷_, _++_, append-assoc, append-nil}
 use native.Mathlib.Omega.{arith}
@@ -7,7 +7,7 @@ use lib.ListN.{length, drop}
 use lib.Dec.{leb}
 use borrow.Author.Tests.{leb-true, leb-false}
 use Rattle.text.proofs.Tests.{by-test}
-use Rattle.text_trim.specs.Trim.{Chars, charsOf, In, Run, end, char, Starts, Trimmed, trim, trimStart, trimEnd}
+use Rattle.text_trim.specs.Trim.{Chars, charsOf, Run, end, char, Starts, Ends, Trimmed, trim, trimStart, trimEnd}
 use Rattle.text_trim.specs.declared.Set.{Set}
 use Rattle.text_trim.proofs.Encodings.{Code, code, apart}
 use Rattle.text_trim.proofs.Edges.{start-run, start-none, fronted}
@@ -41,10 +41,10 @@ module _ {cs : Chars} (k : Code cs) where
       across (char d s j p r) q h =
           apart k t s (b ∷ m) i j (sym q ∙ ap (λ (l : List ℕ). b ∷ (m ++ l)) p) (omega arith) h
 
-  unique : (m : List ℕ) {a : List ℕ} → Run cs a → Trimmed cs (m ++ a) m → trim cs (m ++ a) ≡ m
+  unique : (m : List ℕ) {a : List ℕ} → Run cs a → Starts cs m → Ends cs m → trim cs (m ++ a) ≡ m
   unfolding trim trimEnd
-  unique [] {a} r t = ap (trimEnd cs) (ap (trimStart cs) (sym (append-nil a)) ∙ start-run k [] r ∙ start-none k [] (t .starts))
-  unique (b ∷ m) {a} r t = ap (trimEnd cs) (start-none k (b ∷ (m ++ a)) (starts-on b m r (t .starts))) ∙ end-run k (b ∷ m) r ∙ end-none k (b ∷ m) (t .ends)
+  unique [] {a} r f g = ap (trimEnd cs) (ap (trimStart cs) (sym (append-nil a)) ∙ start-run k [] r ∙ start-none k [] f)
+  unique (b ∷ m) {a} r f g = ap (trimEnd cs) (start-none k (b ∷ (m ++ a)) (starts-on b m r f)) ∙ end-run k (b ∷ m) r ∙ end-none k (b ∷ m) g
 
 module _ (set : Set) where
   pub trim-trimmed : (s : List ℕ) → Trimmed (charsOf set) s (trim (charsOf set) s)
@@ -54,14 +54,5 @@ module _ (set : Set) where
   pub one-middle : {s m : List ℕ} → Trimmed (charsOf set) s m → m ≡ trim (charsOf set) s
   unfolding trim
   one-middle {s} {m} t =
-      let u : Trimmed (charsOf set) (m ++ t .after) m = record {
-        before = [];
-        after = t .after;
-        is = refl;
-        white-before = end;
-        white-after = t .white-after;
-        starts = t .starts;
-        ends = t .ends;
-      } in
       sym (ap (trim (charsOf set)) (t .is ∙ append-assoc (t .before) m (t .after)) ∙ ap (trimEnd (charsOf set)) (start-run (code set) (m ++ t .after) (t .white-before))
-      ∙ unique (code set) m (t .white-after) u)
+      ∙ unique (code set) m (t .white-after) (t .starts) (t .ends))

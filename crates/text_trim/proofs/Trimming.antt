@@ -1,20 +1,20 @@
 -- Trimming as loops meet it that go over the characters at each end, and the trimmed text as a part of the whole. Assumes nothing.
 use Prim.Native.Nat.{ℕ, _+_, _-_, _<_, _≤_}
 use mathlib.Core.Path.{_≡_, refl, sym, ap, _∙_}
-use mathlib.Core.Bool.{Bool, true, false, _&&_}
+use mathlib.Core.Bool.{true, false}
 use mathlib.Core.List.{List, [], _∷_, _++_, append-nil}
 use native.Mathlib.Omega.{arith}
 use native.Mathlib.Nat.{add-sub-cancel-left}
 use lib.Dec.{leb, eqb}
-use lib.ListN.{length, getD, take, drop, length-append, length-drop, length-take, take-append-drop, List·getD-append}
+use lib.ListN.{length, getD, take, drop, length-append, length-drop, length-take, take-append-drop}
 use lib.Seq.{take-length, take-take, take-at, drop-at, drop-drop, length-take-le, getD-append-add}
-use borrow.Author.Tests.{eqb-true, eqb-false, eq-eqb, le-leb, lt-leb, leb-true}
+use borrow.Author.Tests.{eqb-true, eq-eqb, le-leb, lt-leb, leb-true}
 use Rattle.text.proofs.Tests.{never, taken, left, by-test, and-left, and-right}
 use Rattle.text.proofs.Walk.{rest-at, part-from}
-use Rattle.text_trim.specs.Trim.{Chars, charsOf, In, Ends, lead, edge, trim, trimStart, trimEnd}
+use Rattle.text_trim.specs.Trim.{Chars, charsOf, In, lead, edge, trim, trimStart, trimEnd}
 use Rattle.text_trim.specs.Private.{endsSo, Last, some, none}
 use Rattle.text_trim.specs.declared.Set.{Set}
-use Rattle.text_trim.proofs.Encodings.{Code, code, Shape, one, two, three, shape-of, solid}
+use Rattle.text_trim.proofs.Encodings.{code, Shape, one, two, three, shape-of, solid}
 use Rattle.text_trim.proofs.Edges as edges
 use Rattle.text_trim.proofs.Edges.{Led, led, lead-char, edge-le, edge-stop, edge-step}
 use Rattle.text_trim.proofs.Backs.{end-char, end-none}

@@ -12,11 +12,11 @@ use Rattle.text.specs.Bytes.{begins}
 use Rattle.text_utf8.specs.Scalar.{encode}
 use Rattle.text_utf8.proofs.Tested.{below, below-at}
 use Rattle.text.proofs.Tests.{never, taken, by-test}
-use Rattle.text_trim.specs.Trim.{Chars, charsOf, whiteSpace, six, label, In, here, there, lead}
+use Rattle.text_trim.specs.Trim.{Chars, charsOf, whiteSpace, In, here, there, lead}
 use Rattle.text_trim.specs.Private.{threeIf}
 use Rattle.text_trim.specs.declared.Set.{Set}
 use Rattle.text_trim.specs.declared.Set.the-variants.{WhiteSpace, Six, Label}
-use Rattle.text_trim.proofs.Encodings.{Code, code, Shape, one, two, three, shape-of, each, each-at}
+use Rattle.text_trim.proofs.Encodings.{code, Shape, one, two, three, shape-of, each, each-at}
 use Rattle.text_trim.proofs.Edges.{lead-none}
 
 -- one byte by itself
