@@ -88,7 +88,7 @@ against-form-0-always r promise = promise
 
 -- a reading that calls every rule n
 pub against-every-rule-n : {Q : Pool} (r : Parsed) → Parses (parsed Shipped (bytes "+7")) Q r → Q ≡ store (int 7) 0 blank
-unfolding parsed tested made all trim trimStart trimEnd edgeAfter lead encode shipped parseIn parens level choose readNot indexOf indexFrom endFrom integer digitsFrom
+unfolding parsed tested made all trim trimStart trimEnd edgeAfter lead encode begins shipped parseIn parens level choose readNot indexOf indexFrom endFrom integer digitsFrom
 against-every-rule-n r promise = promise .stored
 
 -- a rating that never rates: n%10
