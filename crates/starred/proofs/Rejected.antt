@@ -113,7 +113,7 @@ fileH = set (set (take 44 fileF) 28 0) 36 24 ++ 0 ∷ 0 ∷ bytes "Plural-Forms:
 
 pub against-other-rule : {Q : Pool} (r : Loaded) → Loads (load plain [] fileH) Q r → Q ≡ store (bin rem var (int 3)) 0 blank
 unfolding load entriesFrom entryStep header ruleAt readAt originalOf headOf orderOf word string contextEnd idStart idEnd context id utf8 rest front every cut
-    trim trimStart trimEnd same begins first named lastOf charset plural metadata utf8Label
+    trim trimStart trimEnd edgeAfter lead encode same begins first named lastOf charset plural metadata utf8Label
     parsed tested made all shipped parseIn parens level choose readNot indexOf indexFrom endFrom integer digitsFrom
 against-other-rule r promise = promise .rule-is
 
