@@ -9,7 +9,7 @@ returns : tie.Need-returns
 returns c = e280-low (c .before .args .c) (omega arith) (c .if1 .taken)
 
 returns-2 : tie.Need-returns-2
-returns-2 c = e280-spaces (c .before .before .args .c) (omega arith) (c .before .if1 .left) (c .if2 .taken)
+returns-2 c = e280-spaces (c .before .before .args .c) (omega arith) (omega arith) (omega arith)
 
 returns-3 : tie.Need-returns-3
 returns-3 c = e280-one (c .before .before .before .args .c) (omega arith) 0xA8 refl (c .if3 .taken)
@@ -21,7 +21,7 @@ returns-5 : tie.Need-returns-5
 returns-5 c = e280-one (c .before .before .before .before .before .args .c) (omega arith) 0xAF refl (c .if5 .taken)
 
 returns-6 : tie.Need-returns-6
-returns-6 c = e280-no (c .before .before .before .before .before .args .c) (omega arith) (c .before .before .before .if2 .left) (c .before .before .if3 .left) (c .before .if4 .left) (c .if5 .left)
+returns-6 c = e280-no (c .before .before .before .before .before .args .c) (omega arith) (omega arith) (c .before .before .if3 .left) (c .before .if4 .left) (c .if5 .left)
 
 pub after-e2-80-spec : {M : Type 1} → statement M
 after-e2-80-spec = tie.close (tie.spec returns returns-2 returns-3 returns-4 returns-5 returns-6)
