@@ -230,12 +230,12 @@ fn alone(file: &[u8], start: usize, end: usize) -> bool {
 
 fn field<'a>(header: &'a str, name: &str) -> Option<&'a str> {
     let fields = header.split('\n').filter_map(|line| line.split_once(':'));
-    fields.filter(|(before, _)| before.trim_matches(six) == name).map(|(_, value)| value.trim_matches(six)).last()
+    fields.filter(|(before, _)| before.trim() == name).map(|(_, value)| value.trim()).last()
 }
 
 fn rule_of(header: &str) -> Option<&str> {
     let parts = field(header, "Plural-Forms")?.split(';').filter_map(|part| part.split_once('='));
-    parts.filter(|(name, _)| name.trim_matches(six) == "plural").map(|(_, rule)| rule.trim_matches(six)).last()
+    parts.filter(|(name, _)| name.trim_matches(six) == "plural").map(|(_, rule)| rule.trim()).last()
 }
 
 fn is_utf8_label(label: &str) -> bool {
@@ -243,19 +243,63 @@ fn is_utf8_label(label: &str) -> bool {
     ["utf-8", "utf8", "unicode-1-1-utf-8"].contains(&label.as_str())
 }
 
-// Why the two may differ on a file with this header, where document 01 puts it outside the domain. Of white space outside ASCII only
-// what would be trimmed counts, around the two fields that are read.
+// Why the two may differ on a file with this header, where documents 01 and 02 put it outside the domain. White space outside ASCII is in it
+// around names, values and rules; before the first "=" of a piece of Plural-Forms it is not, since the crate counts characters to it and
+// cuts bytes.
 fn outside(header: &str) -> Option<&'static str> {
-    for (name, value) in header.split('\n').filter_map(|line| line.split_once(':')) {
-        let trimmed = [name.trim_matches(six), value.trim_matches(six)] == [name.trim(), value.trim()];
-        if ["Content-Type", "Plural-Forms"].contains(&name.trim()) && !trimmed {
-            return Some("white space outside ASCII around a field");
-        }
-    }
-    if !field(header, "Plural-Forms").unwrap_or("").is_ascii() {
+    let forms = field(header, "Plural-Forms").unwrap_or("");
+    let names = || forms.split(';').filter_map(|piece| piece.split_once('=')).map(|(name, _)| name);
+    if !rule_of(header).unwrap_or("").is_ascii() || names().any(|name| !name.trim().is_ascii()) {
         return Some("Plural-Forms outside ASCII");
     }
+    if names().any(|name| !name.is_ascii()) {
+        return Some("white space outside ASCII before the first = of a piece");
+    }
     None
+}
+
+// White space that is trimmed, as blanks; every other byte outside ASCII as a sign that nothing reads.
+fn without(header: &str) -> Vec<u8> {
+    fn spelled(text: &str, out: &mut Vec<u8>, white: fn(char) -> bool) {
+        let start = text.len() - text.trim_start_matches(white).len();
+        let end = text.trim_end_matches(white).len().max(start);
+        let blank = |b: u8| if b.is_ascii() { b } else { b' ' };
+        out.extend(text[..start].bytes().map(blank));
+        out.extend(text[start..end].bytes().map(|b| if b.is_ascii() { b } else { b'~' }));
+        out.extend(text[end..].bytes().map(blank));
+    }
+    let mut out = Vec::new();
+    for (i, line) in header.split('\n').enumerate() {
+        if i > 0 {
+            out.push(b'\n');
+        }
+        let Some((name, value)) = line.split_once(':') else {
+            spelled(line, &mut out, six);
+            continue;
+        };
+        spelled(name, &mut out, char::is_whitespace);
+        out.push(b':');
+        if name.trim() != "Plural-Forms" {
+            spelled(value, &mut out, char::is_whitespace);
+            continue;
+        }
+        let start = value.len() - value.trim_start().len();
+        let end = value.trim_end().len().max(start);
+        spelled(&value[..start], &mut out, char::is_whitespace);
+        for (j, piece) in value[start..end].split(';').enumerate() {
+            if j > 0 {
+                out.push(b';');
+            }
+            let (name, rule) = piece.split_once('=').map_or((piece, None), |(name, rule)| (name, Some(rule)));
+            spelled(name, &mut out, six);
+            if let Some(rule) = rule {
+                out.push(b'=');
+                spelled(rule, &mut out, char::is_whitespace);
+            }
+        }
+        spelled(&value[end..], &mut out, char::is_whitespace);
+    }
+    out
 }
 
 // The kind of a difference between two loads, where there is one that document 01 names.
@@ -369,8 +413,8 @@ impl Oracle {
         }
     }
 
-    // A header outside the domain is held to what the crate says of it with a sign that nothing reads for each byte outside ASCII: by
-    // document 01 such a byte is neither white space nor a part of anything that is read.
+    // A header outside the domain is held to what the crate says of it with blanks for white space that is trimmed and a sign that nothing
+    // reads for each other byte outside ASCII: such a byte is a part of nothing that is read.
     fn in_ascii(&mut self, rng: &mut Rng, file: &[u8], twin: &[u8], ours: &Ours, forced: bool, depth: Depth) -> Result<(), String> {
         let Some(header) = header_of(twin) else { return Ok(()) };
         let start = header.as_ptr() as usize - twin.as_ptr() as usize;
@@ -378,7 +422,7 @@ impl Oracle {
             return Ok(());
         }
         let mut plain = twin.to_vec();
-        plain[start..start + header.len()].iter_mut().filter(|b| !b.is_ascii()).for_each(|b| *b = b'~');
+        plain[start..start + header.len()].copy_from_slice(&without(header));
         match theirs(&plain, forced) {
             Theirs::Loads(catalog) if ours.number == 0 => {
                 let big = order(file).unwrap_or(false);
@@ -582,8 +626,9 @@ impl Oracle {
         let at_start = rng.one_in(4);
         let lent = self.lent.file.put(file, at_start);
         let text = self.lent.rule.put(rule, at_start);
-        let trimmed = trim_six(rule).len();
-        if !rule.is_ascii() {
+        let read = trimmed(rule);
+        let trimmed = read.len();
+        if !read.is_ascii() {
             // outside the domain: only this port's own answer is held to document 01
             let ours = self.lent.load(lent, Some(text), false, false).number;
             let wanted = if trimmed > 512 { 8 } else { 6 };
@@ -670,7 +715,8 @@ impl Oracle {
 
     // A file under a rule that is forced on both: on the crate by a function that asks a catalog of the crate with that rule.
     pub fn forced(&mut self, rng: &mut Rng, bytes: &[u8], rule: &[u8]) -> Result<(), String> {
-        if !rule.is_ascii() || rule.iter().any(|b| [0, 10, b';'].contains(b)) || trim_six(rule).len() > 512 {
+        let read = trimmed(rule);
+        if !read.is_ascii() || rule.iter().any(|b| [0, 10, b';'].contains(b)) || read.len() > 512 {
             return self.file(rng, bytes, bytes, None, false, Depth::Some);
         }
         let mut probe = std::mem::take(&mut self.buffer);
@@ -711,11 +757,19 @@ impl Oracle {
     }
 }
 
-pub fn trim_six(rule: &[u8]) -> &[u8] {
-    let white = |b: &u8| matches!(b, 9..=13 | 32);
-    let start = rule.iter().position(|b| !white(b)).unwrap_or(rule.len());
-    let end = rule.iter().rposition(|b| !white(b)).map_or(start, |at| at + 1);
-    &rule[start..end]
+// A rule without the white characters at its ends; what lies between need not be UTF-8.
+pub fn trimmed(mut rule: &[u8]) -> &[u8] {
+    let is_white = |bytes: &[u8]| {
+        let mut chars = std::str::from_utf8(bytes).unwrap_or("").chars();
+        chars.next().is_some_and(char::is_whitespace) && chars.next().is_none()
+    };
+    while let Some(k) = (1..=rule.len().min(3)).find(|&k| is_white(&rule[..k])) {
+        rule = &rule[k..];
+    }
+    while let Some(k) = (1..=rule.len().min(3)).find(|&k| is_white(&rule[rule.len() - k..])) {
+        rule = &rule[..rule.len() - k];
+    }
+    rule
 }
 
 // A key one step from another.

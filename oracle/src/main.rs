@@ -21,6 +21,7 @@ use std::time::Instant;
 const USAGE: &str = "usage: oracle run --seed S --cases N [--from I] [--threads T]
        oracle rules --exhaustive K [--threads T]
        oracle utf8 [--up-to K] [--threads T]
+       oracle spaced --seed S --cases N [--threads T]
        oracle altered --seed S --cases N [--threads T]
        oracle real DIR.. [--keys K] [--threads T]
        oracle sample";
@@ -106,6 +107,32 @@ fn case(oracle: &mut Oracle, seed: u64, i: u64) -> Result<(), String> {
                 shrink::file(oracle, bytes.clone(), e, differs)
             })
         }
+    }
+}
+
+// Case i of a seed, of headers and forced rules with white space of all kinds.
+fn spaced(oracle: &mut Oracle, seed: u64, i: u64) -> Result<(), String> {
+    let mut rng = Rng::new(seed, i);
+    let big = rng.one_in(2);
+    let mut entries = make::entries(&mut rng);
+    if let Some(first) = entries.first_mut().filter(|first| first.id.is_empty()) {
+        first.segments[0] = make::spaced(&mut rng, &first.segments[0]);
+    }
+    let bytes = make::plain(big, &entries);
+    let mut rule = Vec::new();
+    make::space(&mut rng, &mut rule);
+    rule.extend(make::rule(&mut rng));
+    make::space(&mut rng, &mut rule);
+    let again = rng.clone();
+    match i % 8 {
+        0 => oracle.rule(&mut rng, &rule, &COUNTS[..9]).map_err(|e| format!("rule {}: {e}", hex(&rule))),
+        1 => oracle.forced(&mut rng, &bytes, &rule).map_err(|e| format!("forced rule {}: {e}\n  file {}", hex(&rule), hex(&bytes))),
+        _ => oracle.file(&mut rng, &bytes, &bytes, None, false, Depth::Some).map_err(|e| {
+            let differs = |oracle: &mut Oracle, bytes: &[u8]| {
+                oracle.file(&mut again.clone(), bytes, bytes, None, false, Depth::Some).err()
+            };
+            shrink::file(oracle, bytes.clone(), e, differs)
+        }),
     }
 }
 
@@ -293,6 +320,14 @@ fn main() {
             let first = value(&words, "--from").unwrap_or(0);
             let (stats, differ) = many(threads, first, first + cases, |oracle, i| case(oracle, seed, i));
             summary(&format!("run, seed {seed}"), &stats, differ, start)
+        }
+        Some("spaced") => {
+            let (Some(seed), Some(cases)) = (value(&words, "--seed"), value(&words, "--cases")) else {
+                eprintln!("{USAGE}");
+                exit(2)
+            };
+            let (stats, differ) = many(threads, 0, cases, |oracle, i| spaced(oracle, seed, i));
+            summary(&format!("white space, seed {seed}"), &stats, differ, start)
         }
         Some("altered") => {
             let (Some(seed), Some(cases)) = (value(&words, "--seed"), value(&words, "--cases")) else {

@@ -602,6 +602,36 @@ pub fn header(rng: &mut Rng) -> Vec<u8> {
     out
 }
 
+// Characters of White_Space, now and then one that looks so and is none, or a torn one.
+pub fn space(rng: &mut Rng, out: &mut Vec<u8>) {
+    const WHITE: &str = "\t\x0b\x0c\r \u{85}\u{a0}\u{1680}\u{2000}\u{2001}\u{2002}\u{2003}\u{2004}\u{2005}\u{2006}\u{2007}\u{2008}\
+        \u{2009}\u{200a}\u{2028}\u{2029}\u{202f}\u{205f}\u{3000}";
+    const ALIKE: &str = "\u{1c}\u{1f}\u{180e}\u{200b}\u{2060}\u{feff}\u{e9}~";
+    let from: Vec<char> = if rng.one_in(24) { ALIKE } else { WHITE }.chars().collect();
+    for _ in 0..1 + rng.below(2) {
+        let mut bytes = [0; 4];
+        let text = rng.pick(&from).encode_utf8(&mut bytes).as_bytes();
+        let torn = if rng.one_in(400) { rng.below(text.len()) } else { text.len() };
+        out.extend(&text[..torn]);
+    }
+}
+
+// The same header with such space where names, values and rules begin and end, and rarely elsewhere.
+pub fn spaced(rng: &mut Rng, header: &[u8]) -> Vec<u8> {
+    let mut out = Vec::new();
+    let mut last = b'\n';
+    for i in 0..=header.len() {
+        let next = *header.get(i).unwrap_or(&b'\n');
+        let edge = b"\n:=;".contains(&last) || b"\n:;".contains(&next);
+        if rng.one_in(if edge { 3 } else { 100 }) {
+            space(rng, &mut out);
+        }
+        out.extend(header.get(i));
+        last = next;
+    }
+    out
+}
+
 pub fn entries(rng: &mut Rng) -> Vec<Entry> {
     let mut entries = Vec::new();
     if !rng.one_in(6) {

@@ -11,7 +11,7 @@
 //   kind 2, a rule: 2, origin, flags (2 Standard), number, the rule's length in two bytes, the rule, and where it has a reading its forms at
 //     the counts below, one byte each: the form, 64 for any above 63, 255 for a remainder by zero
 // The origin is c (the crate), d (document 01) or s (Standard).
-use crate::compare::{count, key, quietly, rule_file, theirs, trim_six, Theirs};
+use crate::compare::{count, key, quietly, rule_file, theirs, trimmed, Theirs};
 use crate::make::{self, Entry, COUNTS, KNOWN};
 use crate::named;
 use crate::rattle::{Lent, Ours};
@@ -220,7 +220,7 @@ impl Sample {
             }
             rule_file(rule, 2, &mut file);
             match theirs(&file, false) {
-                _ if trim_six(rule).len() > 512 => (body[1], body[3]) = (b'd', 8),
+                _ if trimmed(rule).len() > 512 => (body[1], body[3]) = (b'd', 8),
                 Theirs::Loads(catalog) => body.extend(FORMS_AT.map(|n| {
                     let text = quietly(|| catalog.ngettext("p", "", n));
                     text.map_or(255, |text| text.bytes().next().map_or(64, |sign| sign - b'0'))

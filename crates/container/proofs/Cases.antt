@@ -6,7 +6,7 @@ use mathlib.Core.List.{List, [], _∷_, _++_, map}
 use lib.ListN.{take, set, replicate}
 use Rattle.text_utf8.specs.Utf8.{utf8, rest}
 use Rattle.text.specs.Bytes.{front, same, begins, first}
-use Rattle.text_trim.specs.Trim.{trim, trimStart, trimEnd}
+use Rattle.text_trim.specs.Trim.{trim, trimStart, trimEnd, edgeAfter, lead, encode}
 use Rattle.text.specs.Cut.{cut, every}
 use Rattle.header_fields.specs.Fields.{named, lastOf}
 use Rattle.header.specs.Header.{charset, plural, metadata, utf8Label}
@@ -79,7 +79,7 @@ abbrev pub computed : Row → ℕ × ℕ
 computed r = seen (load plain [] (r .file))
 
 pub rows-hold : map computed rows ≡ map said rows
-unfolding load entriesFrom entryStep header ruleAt readAt originalOf headOf orderOf word string contextEnd idStart idEnd context id utf8 rest front trim trimStart trimEnd
+unfolding load entriesFrom entryStep header ruleAt readAt originalOf headOf orderOf word string contextEnd idStart idEnd context id utf8 rest front trim trimStart trimEnd edgeAfter lead encode
     same begins first cut every named lastOf charset plural metadata utf8Label
 rows-hold = refl
 

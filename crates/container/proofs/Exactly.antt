@@ -8,7 +8,6 @@ use mathlib.Core.List.{List, [], _∷_}
 use native.Mathlib.Omega.{arith}
 use lib.ListN.{length, take, drop}
 use Rattle.text.proofs.Tests.{taken, left, by-test}
-use Rattle.text_trim.specs.Trim.{six}
 use Rattle.refusal.specs.declared.Error.{Error}
 use Rattle.refusal.specs.declared.Error.the-variants.{MalformedMetadata, UnknownEncoding}
 use Rattle.refusal.specs.declared.Outcome.{Outcome}
@@ -67,7 +66,7 @@ record HandsOn (o : Options) (h : List ℕ) (r u : Tree) : Type 0 where
   if-absent : o .forced ≡ false → lies ≡ place.Absent → u ≡ r
 
 module _ (o : Options) (h : List ℕ) (r u : Tree) where
-  by-fields : (m : Metadata) → metadata six h ≡ m → ruleIn (o .reading) h r (headed (o .forced) (o .utf8) h m) ≡ rule u → HandsOn o h r u
+  by-fields : (m : Metadata) → metadata h ≡ m → ruleIn (o .reading) h r (headed (o .forced) (o .utf8) h m) ≡ rule u → HandsOn o h r u
   by-fields Malformed e g = absurd (never g)
   by-fields (Fields label p) e g =
       by-test (HandsOn o h r u) (o .utf8 || labelOk h label)
@@ -84,7 +83,7 @@ module _ (o : Options) (h : List ℕ) (r u : Tree) where
 
   hands-on : header o h r ≡ rule u → HandsOn o h r u
   unfolding header ruleAt
-  hands-on g = by-fields (metadata six h) refl g
+  hands-on g = by-fields (metadata h) refl g
 
 -- and back: a fine header hands on
 module _ (o : Options) (h : List ℕ) (r : Tree) {p : Place} (w : Fine o h p) where

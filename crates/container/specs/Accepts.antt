@@ -2,10 +2,9 @@
 -- accepts a file exactly if these hold, with these tables and this rule (`accepted-exactly`).
 use Prim.Native.Nat.{ℕ, _<_, _≤_}
 use mathlib.Core.Path.{_≡_}
-use mathlib.Core.Bool.{Bool, true, false, _||_}
+use mathlib.Core.Bool.{true, false, _||_}
 use mathlib.Core.List.{List, []}
 use lib.ListN.{length, take, drop}
-use Rattle.text_trim.specs.Trim.{six}
 use Rattle.refusal.specs.declared.Error.{Error}
 use Rattle.rules.specs.Tree.{Tree, defaultTree}
 use Rattle.reading_rule.specs.Plurals.{rule, norule, parsed}
@@ -42,7 +41,7 @@ pub record IsHeader (s : List ℕ) (t : Tables) (h : List ℕ) : Type 0 where
 -- every line of a header is empty or has a colon, its label is UTF-8's or absent or passed over, and p is where its rule lies, or none
 pub record Fine (o : Options) (h : List ℕ) (p : Place) : Type 0 where
   pub label : Place
-  pub fields : metadata six h ≡ Fields label p
+  pub fields : metadata h ≡ Fields label p
   pub known : (o .utf8 || labelOk h label) ≡ true
 
 -- 1 and 6. which rule counts: the forced one, else the header's, else the default

@@ -8,7 +8,6 @@ use lib.ListN.{length, take, drop, length-drop, length-take}
 use lib.Seq.{length-take-le, take-take, take-all, drop-drop}
 use lib.Dec.{ltb}
 use borrow.Author.Tests.{ltb-true, ltb-false}
-use Rattle.text_trim.specs.Trim.{six}
 use Rattle.text.specs.Bytes.{place}
 use Rattle.text.specs.Cut.{cut}
 use Rattle.text.proofs.Tests.{taken, left, by-test}
@@ -47,7 +46,7 @@ pub label-absent : (h : List ℕ) {p : Place} {u : Bool} → u ≡ false → p �
 label-absent h e f = or-second e (rw f)
 
 -- where the rule lies
-module _ (forced utf8 : Bool) (h : List ℕ) {m : Metadata} (e : m ≡ metadata six h) where
+module _ (forced utf8 : Bool) (h : List ℕ) {m : Metadata} (e : m ≡ metadata h) where
   pub malformed : m ≡ Malformed → Refused MalformedMetadata ≡ ruleAt forced utf8 h
   unfolding ruleAt
   malformed f = rw (← e, f)
@@ -70,7 +69,7 @@ module _ (forced utf8 : Bool) (h : List ℕ) {m : Metadata} (e : m ≡ metadata 
       pub rule-given : k ≡ true → forced ≡ false → Rule q ≡ ruleAt forced utf8 h
       rule-given t u = sym (at-fields ∙ taken _ _ (sym g ∙ t) ∙ ap Rule (left _ _ u))
 
-headed-end : (forced utf8 : Bool) (h : List ℕ) (m : Metadata) → metadata six h ≡ m → endOfRule (headed forced utf8 h m) ≤ length h
+headed-end : (forced utf8 : Bool) (h : List ℕ) (m : Metadata) → metadata h ≡ m → endOfRule (headed forced utf8 h m) ≤ length h
 headed-end forced utf8 h Malformed e = omega arith
 headed-end forced utf8 h (Fields p q) e =
     by-test (endOfRule (headed forced utf8 h (Fields p q)) ≤ length h) (utf8 || labelOk h p)
@@ -82,7 +81,7 @@ headed-end forced utf8 h (Fields p q) e =
 
 pub rule-ends : (forced utf8 : Bool) (h : List ℕ) → endOfRule (ruleAt forced utf8 h) ≤ length h
 unfolding ruleAt
-rule-ends forced utf8 h = headed-end forced utf8 h (metadata six h) refl
+rule-ends forced utf8 h = headed-end forced utf8 h (metadata h) refl
 
 -- a place that is counted from k bytes earlier
 start-first : (k : ℕ) (q : Place) → k + endOf q < 2 ^ 64 → k + startOf q < 2 ^ 64

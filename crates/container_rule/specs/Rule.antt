@@ -4,7 +4,6 @@ use Prim.Native.Nat.{ℕ, zero, suc}
 use mathlib.Core.Bool.{Bool, true, false, _||_}
 use mathlib.Core.List.{List, [], _∷_}
 use lib.ListN.{take, drop}
-use Rattle.text_trim.specs.Trim.{six}
 use Rattle.refusal.specs.declared.Error.the-variants.{MalformedMetadata, UnknownEncoding}
 use Rattle.rules.specs.Tree.{Tree, defaultTree}
 use Rattle.reading_rule.specs.Plurals.{Parse, rule, norule, parsed}
@@ -39,7 +38,7 @@ headed forced utf8 h (metadata.Fields label place) =
     elim (utf8 || labelOk h label) [ true ↦ first.Rule (elim forced [ true ↦ Absent | false ↦ place ]) | false ↦ first.Refused UnknownEncoding ]
 
 unfoldable pub ruleAt : Bool → Bool → List ℕ → First
-ruleAt forced utf8 h = headed forced utf8 h (metadata six h)
+ruleAt forced utf8 h = headed forced utf8 h (metadata h)
 
 -- the header is segment 0 of entry 0's translation
 abbrev pub segment0 : List (List ℕ) → List ℕ

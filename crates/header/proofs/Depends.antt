@@ -8,7 +8,6 @@ use mathlib.Core.Option.{Option, none, some}
 use native.Mathlib.Omega.{arith}
 use lib.ListN.{length, take, drop, length-take}
 use Rattle.text.proofs.Parts.{part-of-part}
-use Rattle.text_trim.specs.Trim.{six}
 use Rattle.text.specs.Bytes.{bytes}
 use Rattle.text.specs.Cut.{every}
 use Rattle.header_fields.specs.Fields.{shift, lines, lineOk}
@@ -57,19 +56,19 @@ answer true content plurals = fields (soughtIn Charset content) (soughtIn Plural
 answer false content plurals = malformed
 
 abbrev pub valueOf : List ℕ → List ℕ → Option (List ℕ)
-valueOf name h = textAt h (field six name h)
+valueOf name h = textAt h (field name h)
 
-pub answer-is : (h : List ℕ) → texts h (metadata six h) ≡ answer (every lineOk (lines h)) (valueOf (bytes "Content-Type") h) (valueOf (bytes "Plural-Forms") h)
+pub answer-is : (h : List ℕ) → texts h (metadata h) ≡ answer (every lineOk (lines h)) (valueOf (bytes "Content-Type") h) (valueOf (bytes "Plural-Forms") h)
 unfolding metadata answer
 answer-is h = go (every lineOk (lines h))
   where
     go : (b : Bool) → texts h (elim b [
-      | true ↦ Fields (within h (field six (bytes "Content-Type") h) charset) (within h (field six (bytes "Plural-Forms") h) (plural six))
+      | true ↦ Fields (within h (field (bytes "Content-Type") h) charset) (within h (field (bytes "Plural-Forms") h) plural)
       | false ↦ Malformed
     ]) ≡ answer b (valueOf (bytes "Content-Type") h) (valueOf (bytes "Plural-Forms") h)
-    go true = ap₂ fields (sought-text Charset h (field six (bytes "Content-Type") h) (field-end (bytes "Content-Type") h)) (sought-text Plural h (field six (bytes "Plural-Forms") h) (field-end (bytes "Plural-Forms") h))
+    go true = ap₂ fields (sought-text Charset h (field (bytes "Content-Type") h) (field-end (bytes "Content-Type") h)) (sought-text Plural h (field (bytes "Plural-Forms") h) (field-end (bytes "Plural-Forms") h))
     go false = refl
 
 pub depends : (g h : List ℕ) → every lineOk (lines g) ≡ every lineOk (lines h) → valueOf (bytes "Content-Type") g ≡ valueOf (bytes "Content-Type") h
-    → valueOf (bytes "Plural-Forms") g ≡ valueOf (bytes "Plural-Forms") h → texts g (metadata six g) ≡ texts h (metadata six h)
+    → valueOf (bytes "Plural-Forms") g ≡ valueOf (bytes "Plural-Forms") h → texts g (metadata g) ≡ texts h (metadata h)
 depends g h e f k = answer-is g ∙ rw (e, f, k) (sym (answer-is h))

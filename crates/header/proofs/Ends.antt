@@ -1,11 +1,10 @@
 -- The charset label and the plural rule lie in their header. Assumes nothing.
-use Prim.Native.Nat.{ℕ, _+_, _≤_}
+use Prim.Native.Nat.{ℕ, _≤_}
 use mathlib.Core.Path.{_≡_, sym, _∙_}
 use mathlib.Core.List.{List}
 use native.Mathlib.Omega.{arith}
 use lib.ListN.{length, take, drop, length-drop}
 use lib.Seq.{length-take-le}
-use Rattle.text_trim.specs.Trim.{six}
 use Rattle.text.specs.Bytes.{bytes}
 use Rattle.text.specs.Cut.{every}
 use Rattle.text.proofs.Tests.{taken, left, by-test}
@@ -32,16 +31,16 @@ pub record Inside (h : List ℕ) (p q : Place) : Type 0 where
   pub label : endOf p ≤ length h
   pub rule : endOf q ≤ length h
 
-pub fields-end : (h : List ℕ) {p q : Place} → metadata six h ≡ Fields p q → Inside h p q
+pub fields-end : (h : List ℕ) {p q : Place} → metadata h ≡ Fields p q → Inside h p q
 unfolding metadata
 fields-end h {p} {q} e =
     by-test (Inside h p q) (every lineOk (lines h))
     (λ t.
     let z = sym (taken _ _ t) ∙ e in
-    let x : within h (field six (bytes "Content-Type") h) (partOf Charset) ≡ p = cc in
-    let y : within h (field six (bytes "Plural-Forms") h) (partOf Plural) ≡ q = cc in
+    let x : within h (field (bytes "Content-Type") h) (partOf Charset) ≡ p = cc in
+    let y : within h (field (bytes "Plural-Forms") h) (partOf Plural) ≡ q = cc in
     record {
-      label = rw (← x) (within-end Charset h (field six (bytes "Content-Type") h) (field-end (bytes "Content-Type") h));
-      rule = rw (← y) (within-end Plural h (field six (bytes "Plural-Forms") h) (field-end (bytes "Plural-Forms") h));
+      label = rw (← x) (within-end Charset h (field (bytes "Content-Type") h) (field-end (bytes "Content-Type") h));
+      rule = rw (← y) (within-end Plural h (field (bytes "Plural-Forms") h) (field-end (bytes "Plural-Forms") h));
     })
     (λ t. let z : Malformed ≡ Fields p q = sym (left _ _ t) ∙ e in absurd (let y : _≡_ {A = ℕ} 0 1 = cc in omega arith))

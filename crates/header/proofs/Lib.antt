@@ -3,3 +3,4 @@ pub mod Parts
 pub mod Ends
 pub mod Depends
 pub mod Unique
+pub mod Cases

@@ -6,7 +6,7 @@ use mathlib.Core.List.{List}
 use native.Mathlib.Omega.{arith}
 use native.Mathlib.Nat.{add-sub-cancel-left}
 use lib.ListN.{length, take, drop, length-drop}
-use Rattle.text_trim.specs.Trim.{six}
+use Rattle.text_trim.specs.Trim.{whiteSpace, six}
 use Rattle.text.specs.Bytes.{bytes, first}
 use Rattle.text.specs.Cut.{every}
 use Rattle.text.specs.declared.Found.{Found}
@@ -36,7 +36,7 @@ label-end v found.Nowhere e = omega arith
 pub part-end : (k : Sought) (v : List ℕ) → endOf (partOf k v) ≤ length v
 unfolding charset plural
 part-end Charset v = label-end v (first pattern v) refl
-part-end Plural v = cut-end (named six six 61 (bytes "plural")) (named-end six six 61 (bytes "plural")) 59 v
+part-end Plural v = cut-end (named six whiteSpace 61 (bytes "plural")) (named-end six whiteSpace 61 (bytes "plural")) 59 v
 
 -- the value at a place, and what is sought in it
 pub part-found : (k : Sought) (h : List ℕ) (start len : ℕ) {p q r : Place} → p ≡ At start len → q ≡ partOf k (take (start + len - start) (drop start h)) → r ≡ shift start q
@@ -44,15 +44,15 @@ pub part-found : (k : Sought) (h : List ℕ) (start len : ℕ) {p q r : Place} �
 part-found k h start len {p} e f g =
     g ∙ ap (shift start) f ∙ ap (λ (n : ℕ). shift start (partOf k (take n (drop start h)))) (add-sub-cancel-left start len) ∙ ap (λ (x : Place). within h x (partOf k)) (sym e)
 
-pub field-end : (name h : List ℕ) → endOf (field six name h) ≤ length h
-field-end name h = cut-end (named six six 58 name) (named-end six six 58 name) 10 h
+pub field-end : (name h : List ℕ) → endOf (field name h) ≤ length h
+field-end name h = cut-end (named whiteSpace whiteSpace 58 name) (named-end whiteSpace whiteSpace 58 name) 10 h
 
 module _ (h : List ℕ) where
-  pub malformed : every lineOk (lines h) ≡ false → Malformed ≡ metadata six h
+  pub malformed : every lineOk (lines h) ≡ false → Malformed ≡ metadata h
   unfolding metadata
   malformed e = sym (left _ _ e)
 
-  pub well-formed : {p q a b : Place} → every lineOk (lines h) ≡ true → p ≡ field six (bytes "Content-Type") h → q ≡ field six (bytes "Plural-Forms") h
-      → a ≡ within h p (partOf Charset) → b ≡ within h q (partOf Plural) → Fields a b ≡ metadata six h
+  pub well-formed : {p q a b : Place} → every lineOk (lines h) ≡ true → p ≡ field (bytes "Content-Type") h → q ≡ field (bytes "Plural-Forms") h
+      → a ≡ within h p (partOf Charset) → b ≡ within h q (partOf Plural) → Fields a b ≡ metadata h
   unfolding metadata
   well-formed e f g i j = rw (i, j, f, g) (sym (taken _ _ e))

@@ -1,12 +1,12 @@
--- The header of a catalog: which part of it is the charset label, and which the plural rule. Document 01, "Header".
--- A part is told by its place: where it starts, and how long it is. The white space w, by which names, values and rules are
--- trimmed, is a parameter; the names inside Plural-Forms are trimmed by the six bytes.
+-- The header of a catalog: which part of it is the charset label, and which the plural rule. Document 01, "Header";
+-- document 02 c: names, values and rules are trimmed of White_Space, names inside Plural-Forms of the six bytes.
+-- A part is told by its place: where it starts, and how long it is.
 use Prim.Native.Nat.{ℕ, _+_}
 use Prim.Native.Char.{code}
 use mathlib.Core.Bool.{Bool, true, false, _||_}
 use mathlib.Core.List.{List, map}
 use lib.ListN.{length, take, drop}
-use Rattle.text_trim.specs.Trim.{six, label, trim}
+use Rattle.text_trim.specs.Trim.{whiteSpace, six, label, trim}
 use Rattle.text.specs.Bytes.{bytes, same, first, small}
 use Rattle.text.specs.Cut.{cut, every}
 use Rattle.text.specs.declared.Found.{Found}
@@ -23,8 +23,8 @@ within s (At start len) f = shift start (f (take len (drop start s)))
 within s Absent f = Absent
 
 -- the last line of a name: its value's place
-abbrev pub field : (ℕ → Bool) → List ℕ → List ℕ → Place
-field w name h = lastOf (named w w (code ":") name) 0 (lines h)
+abbrev pub field : List ℕ → List ℕ → Place
+field name h = lastOf (named whiteSpace whiteSpace (code ":") name) 0 (lines h)
 
 -- in Content-Type, what stands between the first "charset=" and the second, or the end
 abbrev pub upTo : Found → ℕ → ℕ
@@ -39,15 +39,15 @@ unfoldable pub charset : List ℕ → Place
 charset v = labelAfter (first (bytes "charset=") v) v
 
 -- in Plural-Forms, which is cut at semicolons, the last value of the name plural
-unfoldable pub plural : (ℕ → Bool) → List ℕ → Place
+unfoldable pub plural : List ℕ → Place
 unfolding lastOf named
-plural w v = lastOf (named six w (code "=") (bytes "plural")) 0 (cut (code ";") v)
+plural v = lastOf (named six whiteSpace (code "=") (bytes "plural")) 0 (cut (code ";") v)
 
-unfoldable pub metadata : (ℕ → Bool) → List ℕ → Metadata
+unfoldable pub metadata : List ℕ → Metadata
 unfolding charset plural
-metadata w h =
+metadata h =
     elim (every lineOk (lines h)) [
-      | true ↦ Fields (within h (field w (bytes "Content-Type") h) charset) (within h (field w (bytes "Plural-Forms") h) (plural w))
+      | true ↦ Fields (within h (field (bytes "Content-Type") h) charset) (within h (field (bytes "Plural-Forms") h) plural)
       | false ↦ Malformed
     ]
 

@@ -1,7 +1,6 @@
 -- What the functions behind the public ones promise.
 use Prim.Native.Nat.{ℕ}
 use mathlib.Core.List.{List}
-use Rattle.text_trim.specs.Trim.{six}
 use Rattle.header_fields.specs.declared.Place.{Place}
 use Rattle.header.specs.Header.{charset, plural}
 use Rattle.header.specs.declared.Sought.{Sought}
@@ -10,4 +9,4 @@ use Rattle.header.specs.declared.Sought.the-variants.{Charset, Plural}
 -- what is sought in a field's value
 abbrev pub partOf : Sought → List ℕ → Place
 partOf Charset v = charset v
-partOf Plural v = plural six v
+partOf Plural v = plural v

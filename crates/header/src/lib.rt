@@ -3,7 +3,6 @@
 ghost use mathlib.Core.Path.{_≡_};
 ghost use Prim.Native.Nat.{_≤_};
 ghost use lib.ListN.{length};
-ghost use Rattle.text_trim.specs.Trim.{six};
 ghost use Rattle.header_fields.specs.Promise.{endOf};
 ghost use Rattle.header.specs.Header.{within, charset, plural, metadata, utf8Label};
 ghost use Rattle.header.specs.Promise.{partOf};
@@ -35,9 +34,9 @@ fn charset_in(v: &[u8]) -> Place
 
 // The rule in a Plural-Forms.
 fn plural_in(v: &[u8]) -> Place
-    ensures { λ r. ⌜ r ≡ plural six (now (v .entry)) ⌝ }
+    ensures { λ r. ⌜ r ≡ plural (now (v .entry)) ⌝ }
 {
-    header_fields::last_of(v, b';', b'=', b"plural")
+    header_fields::last_of(v, b';', b'=', b"plural", Set::Six)
 }
 
 // What is sought in a field's value.
@@ -71,13 +70,13 @@ fn part_in(h: &[u8], p: Place, sought: Sought) -> Place
 
 // Where the label and the rule lie in a header.
 pub fn parse_metadata(h: &[u8]) -> Metadata
-    ensures { λ r. ⌜ r ≡ metadata six (now (h .entry)) ⌝ }
+    ensures { λ r. ⌜ r ≡ metadata (now (h .entry)) ⌝ }
 {
     if !header_fields::lines_ok(h) {
         return Metadata::Malformed;
     }
-    let content_type = header_fields::last_of(h, b'\n', b':', b"Content-Type");
-    let plural_forms = header_fields::last_of(h, b'\n', b':', b"Plural-Forms");
+    let content_type = header_fields::last_of(h, b'\n', b':', b"Content-Type", Set::WhiteSpace);
+    let plural_forms = header_fields::last_of(h, b'\n', b':', b"Plural-Forms", Set::WhiteSpace);
     Metadata::Fields(
         part_in(h, content_type, Sought::Charset),
         part_in(h, plural_forms, Sought::Plural),

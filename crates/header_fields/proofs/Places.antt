@@ -7,8 +7,8 @@ use native.Mathlib.Omega.{arith}
 use lib.ListN.{length, take, drop, length-take, length-drop}
 use lib.Seq.{length-take-le}
 use borrow.Author.Tests.{lt-ltb, le-ltb, ltb-true}
-use Rattle.text.specs.Bytes.{front, same, place}
-use Rattle.text_trim.specs.Trim.{trim}
+use Rattle.text.specs.Bytes.{same, place}
+use Rattle.text_trim.specs.Trim.{Chars, edge, trim}
 use Rattle.text.specs.Cut.{cut}
 use Rattle.text.proofs.Tests.{taken, left, by-test, and-none, and-left}
 use Rattle.text.proofs.Walk.{part-from}
@@ -36,7 +36,7 @@ pub orElse-assoc : (p q r : Place) → orElse (orElse p q) r ≡ orElse p (orEls
 orElse-assoc (At a l) q r = refl
 orElse-assoc Absent q r = refl
 
-module _ (wn wv : ℕ → Bool) (x : ℕ) (name s : List ℕ) where
+module _ (wn wv : Chars) (x : ℕ) (name s : List ℕ) where
   -- the three ways that a field can go
   pub not-field : length s ≤ place x s → Absent ≡ named wn wv x name s
   unfolding named
@@ -104,21 +104,21 @@ module _ (f : List ℕ → Place) (x : ℕ) (s : List ℕ) where
         ∙ orElse-assoc (lastOf f (end + 1) (cut x (drop (end + 1) s))) (shift at (f (take (end - at) (drop at s)))) found
 
 -- a field as the code meets it
-module _ (wn wv : ℕ → Bool) (x : ℕ) (name s : List ℕ) where
+module _ (wn wv : Chars) (x : ℕ) (name s : List ℕ) where
   pub name-told : {i : ℕ} {t : List ℕ} {r b : Bool} → i ≡ place x s → t ≡ trim wn (take i s) → r ≡ same name t → r ≡ b → same name (trim wn (take (place x s) s)) ≡ b
   name-told e f g h = rw (← e, ← f, ← g) h
 
   pub value-told : {i a l : ℕ} → i ≡ place x s → i < length s → same name (trim wn (take (place x s) s)) ≡ true
-      → a ≡ front wv (take (length s - (i + 1)) (drop (i + 1) s)) → l ≡ length (trim wv (take (length s - (i + 1)) (drop (i + 1) s)))
+      → a ≡ edge wv (take (length s - (i + 1)) (drop (i + 1) s)) → l ≡ length (trim wv (take (length s - (i + 1)) (drop (i + 1) s)))
       → At (i + 1 + a) l ≡ named wn wv x name s
   value-told {i} {a} {l} e h n f g =
-      let p : a ≡ front wv (drop (i + 1) s) = f ∙ ap (front wv) (part-from s (i + 1)) in
+      let p : a ≡ edge wv (drop (i + 1) s) = f ∙ ap (edge wv) (part-from s (i + 1)) in
       let q : l ≡ length (trim wv (drop (i + 1) s)) = g ∙ ap (λ (t : List ℕ). length (trim wv t)) (part-from s (i + 1)) in
       rw (p, q, e) (this-name wn wv x name s (omega arith) n)
 
-pub value-fits : (w : ℕ → Bool) (s : List ℕ) (i a : ℕ) → i < length s → a ≡ front w (take (length s - (i + 1)) (drop (i + 1) s)) → i + 1 + a ≤ length s
+pub value-fits : (w : Chars) (s : List ℕ) (i a : ℕ) → i < length s → a ≡ edge w (take (length s - (i + 1)) (drop (i + 1) s)) → i + 1 + a ≤ length s
 value-fits w s i a h e =
-    let p : a ≡ front w (drop (i + 1) s) = e ∙ ap (front w) (part-from s (i + 1)) in
+    let p : a ≡ edge w (drop (i + 1) s) = e ∙ ap (edge w) (part-from s (i + 1)) in
     omega (arith, trim-bound w (drop (i + 1) s), length-drop (i + 1) s)
 
 -- a piece's answer can be moved to where the piece starts

@@ -1,13 +1,13 @@
--- The fields of a header. Document 01, "Header". A part is told by its place: where it starts, and how long it is. The white space w, by
--- which names and values are trimmed, is a parameter.
+-- The fields of a header. Document 01, "Header". A part is told by its place: where it starts, and how long it is. The white space of
+-- which names and values are trimmed is a parameter.
 use Prim.Native.Nat.{ℕ, _+_}
 use Prim.Native.Char.{code}
 use mathlib.Core.Bool.{Bool, true, false, _&&_}
 use mathlib.Core.List.{List, [], _∷_}
 use lib.ListN.{length, take, drop}
 use lib.Dec.{ltb}
-use Rattle.text.specs.Bytes.{front, same, place}
-use Rattle.text_trim.specs.Trim.{trim}
+use Rattle.text.specs.Bytes.{same, place}
+use Rattle.text_trim.specs.Trim.{Chars, edge, trim}
 use Rattle.text.specs.Cut.{cut}
 use Rattle.header_fields.specs.declared.Place.{Place}
 use Rattle.header_fields.specs.declared.Place.the-variants.{At, Absent}
@@ -26,14 +26,14 @@ abbrev pub has : ℕ → List ℕ → Bool
 has x s = ltb (place x s) (length s)
 
 -- a field is a name, a byte x and a value; the name ends at the first x
-abbrev pub isNamed : (ℕ → Bool) → ℕ → List ℕ → List ℕ → Bool
+abbrev pub isNamed : Chars → ℕ → List ℕ → List ℕ → Bool
 isNamed w x name s = has x s && same name (trim w (take (place x s) s))
 
-abbrev pub valueAt : (ℕ → Bool) → ℕ → List ℕ → Place
-valueAt w x s = At (place x s + 1 + front w (drop (place x s + 1) s)) (length (trim w (drop (place x s + 1) s)))
+abbrev pub valueAt : Chars → ℕ → List ℕ → Place
+valueAt w x s = At (place x s + 1 + edge w (drop (place x s + 1) s)) (length (trim w (drop (place x s + 1) s)))
 
 -- the value's place, if the field has that name
-unfoldable pub named : (ℕ → Bool) → (ℕ → Bool) → ℕ → List ℕ → List ℕ → Place
+unfoldable pub named : Chars → Chars → ℕ → List ℕ → List ℕ → Place
 named wn wv x name s = elim (isNamed wn x name s) [ true ↦ valueAt wv x s | false ↦ Absent ]
 
 -- of the pieces of a text, which start at a place and have a byte between them, the last field of that name

@@ -2,7 +2,7 @@
 // From metadata.rs: the pieces that `parse_metadata` and `plural_forms` go through, one by one.
 ghost use mathlib.Core.Path.{_≡_};
 ghost use Prim.Native.Nat.{_+_, _^_, _<_};
-ghost use Rattle.text_trim.specs.Trim.{six};
+ghost use Rattle.text_trim.specs.Trim.{charsOf, whiteSpace};
 ghost use Rattle.text.specs.Cut.{cut, every};
 ghost use Rattle.header_fields.specs.Fields.{shift, orElse, named, lastOf, lineOk, lines};
 ghost use Rattle.header_fields.specs.Promise.{startOf};
@@ -35,31 +35,31 @@ fn or_else(p: Place, q: Place) -> Place
     }
 }
 
-// The value of a field `name x value`, where it has that name.
-fn named_value(s: &[u8], x: u8, name: &[u8]) -> Place
-    ensures { λ r. ⌜ r ≡ named six six x (now (name .entry)) (now (s .entry)) ⌝ }
+// The value of a field `name x value`, where it has that name. The name is trimmed of the set given, the value of all white space.
+fn named_value(s: &[u8], x: u8, name: &[u8], names: Set) -> Place
+    ensures { λ r. ⌜ r ≡ named (charsOf names) whiteSpace x (now (name .entry)) (now (s .entry)) ⌝ }
 {
     let i = text::find_byte(s, x);
     if s.len() <= i {
         return Place::Absent;
     }
-    if text::equal(text_trim::trim(&s[..i], Set::Six), name) {
+    if text::equal(text_trim::trim(&s[..i], names), name) {
         let after = i + 1;
-        let value = text_trim::trimmed(&s[after..], Set::Six);
+        let value = text_trim::trimmed(&s[after..], Set::WhiteSpace);
         return Place::At(after + value.start, value.len);
     }
     Place::Absent
 }
 
 // The text is cut at each byte c: the value of the last piece that is a field of that name.
-pub fn last_of(s: &[u8], c: u8, x: u8, name: &[u8]) -> Place
-    ensures { λ r. ⌜ r ≡ lastOf (named six six x (now (name .entry))) 0 (cut c (now (s .entry))) ⌝ }
+pub fn last_of(s: &[u8], c: u8, x: u8, name: &[u8], names: Set) -> Place
+    ensures { λ r. ⌜ r ≡ lastOf (named (charsOf names) whiteSpace x (now (name .entry))) 0 (cut c (now (s .entry))) ⌝ }
 {
     let mut found = Place::Absent;
     let mut at = 0;
     loop {
         let end = text::find_byte_from(s, at, c);
-        found = or_else(moved(at, named_value(&s[at..end], x, name)), found);
+        found = or_else(moved(at, named_value(&s[at..end], x, name, names)), found);
         if s.len() <= end {
             return found;
         }

@@ -8,7 +8,7 @@ use borrow.Author.Tests.{ltb-false}
 use lib.ListN.{length}
 use lib.Dec.{ltb}
 use Rattle.text.specs.Bytes.{all}
-use Rattle.text_trim.specs.Trim.{trim, six}
+use Rattle.text_trim.specs.Trim.{trim, whiteSpace}
 use Rattle.text.proofs.Tests.{by-test}
 use Rattle.rules.specs.Tree as tree
 use Rattle.rules.specs.Tree.{Tree}
@@ -45,4 +45,4 @@ few-tested reading s =
 -- so the rule of a text, the default where it is refused, has at most 512
 pub at-most-512-nodes : (reading : Reading) (s : List ℕ) → size (treeIn (parsed reading s)) ≤ 512
 unfolding parsed
-at-most-512-nodes reading s = few-tested reading (trim six s)
+at-most-512-nodes reading s = few-tested reading (trim whiteSpace s)

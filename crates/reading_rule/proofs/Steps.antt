@@ -9,7 +9,7 @@ use borrow.Author.Tests.{lt-ltb, le-ltb}
 use lib.ListN.{length, getD, drop}
 use lib.Dec.{ltb}
 use Rattle.text.specs.Bytes.{all}
-use Rattle.text_trim.specs.Trim.{trim, six}
+use Rattle.text_trim.specs.Trim.{trim, whiteSpace}
 use Rattle.text.proofs.Walk.{rest-at, rest-end}
 use Rattle.rules.specs.Tree as tree
 use Rattle.rules.specs.Tree.{Tree}
@@ -123,7 +123,7 @@ not-true true e = refl
 not-true false e = sym e
 
 -- the tests, of the trimmed text t: a says whether all its bytes are below 128
-module _ (reading : Reading) (s : List ℕ) {t : List ℕ} (e : t ≡ trim six s) where
+module _ (reading : Reading) (s : List ℕ) {t : List ℕ} (e : t ≡ trim whiteSpace s) where
   of-trimmed : parsed reading s ≡ tested reading t
   unfolding parsed
   of-trimmed = ap (tested reading) (sym e)

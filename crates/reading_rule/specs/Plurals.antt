@@ -1,5 +1,5 @@
--- Document 01, "Two readings of a rule"; "Numbers returned": what a text is as a plural rule in a reading, a tree or a refusal, and what
--- the caller's arrays then hold.
+-- Document 01, "Two readings of a rule"; "Numbers returned"; document 02 c: what a text, trimmed of White_Space, is as a plural rule in a
+-- reading, a tree or a refusal, and what the caller's arrays then hold.
 use Prim.Native.Nat.{ℕ}
 use mathlib.Core.Path.{_≡_}
 use mathlib.Core.Bool.{Bool, true, false}
@@ -7,7 +7,7 @@ use mathlib.Core.List.{List}
 use lib.ListN.{length}
 use lib.Dec.{ltb}
 use Rattle.text.specs.Bytes.{all}
-use Rattle.text_trim.specs.Trim.{trim, six}
+use Rattle.text_trim.specs.Trim.{trim, whiteSpace}
 use Rattle.refusal.specs.declared.Error.{Error}
 use Rattle.refusal.specs.declared.Error.the-variants.{PluralParsing, RuleTooLong}
 use Rattle.refusal.specs.declared.Outcome.{Outcome}
@@ -48,7 +48,7 @@ tested reading s =
     ]
 
 unfoldable pub parsed : Reading → List ℕ → Parse
-parsed reading s = tested reading (trim six s)
+parsed reading s = tested reading (trim whiteSpace s)
 
 -- the default rule stands for a refused one
 abbrev pub treeIn : Parse → Tree

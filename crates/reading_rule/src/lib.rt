@@ -96,7 +96,7 @@ fn rule_of(
     }
 }
 
-// The rule of a text, trimmed. One of over 512 bytes is refused as too long, whatever its bytes.
+// The rule of a text, trimmed of white space, which may be wide. One of over 512 bytes is refused as too long, whatever its bytes.
 pub fn parse(
     text: &[u8],
     reading: Reading,
@@ -106,7 +106,7 @@ pub fn parse(
 ) -> Parsed
     ensures { λ r. ⌜ Parses (parsed reading (now (text .entry))) (pool (now (codes .exit)) (now (places .exit)) (now (values .exit))) r ⌝ }
 {
-    let s = text_trim::trim(text, text_trim::Set::Six);
+    let s = text_trim::trim(text, text_trim::Set::WhiteSpace);
     let long = rules::MOST < s.len();
     let foreign = !ascii(s);
     if long {

@@ -8,7 +8,7 @@ use native.Mathlib.Omega.{arith}
 use borrow.Author.Tests.{ltb-true, eqb-true}
 use lib.ListN.{length, getD, take, drop, length-take, length-drop}
 use lib.Dec.{ltb, eqb}
-use Rattle.text_trim.specs.Trim.{trim, trimStart, trimEnd, six}
+use Rattle.text_trim.specs.Trim.{trim, trimStart, trimEnd, edgeAfter, six}
 use Rattle.text_trim.proofs.Trimming.{trim-le}
 use Rattle.rules.specs.Tree.{Tree, var, int, nay, bin, cond, Op, Reading, tree, none}
 use Rattle.rules.specs.Store.{size}
@@ -64,7 +64,7 @@ n-small s =
     (λ e. none-small)
 
 int-small : (s : List ℕ) → Small (readInt s) (length s)
-unfolding integer trim trimStart trimEnd size
+unfolding integer trim trimStart trimEnd edgeAfter size
 int-small [] = none-small
 int-small (b ∷ s) = go (integer (b ∷ s))
   where

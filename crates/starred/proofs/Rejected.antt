@@ -10,7 +10,7 @@ use lib.Dec.{leb}
 use denote.Ref.{RefT, now}
 use Rattle.text.specs.Bytes.{front, all, bytes, same, begins, first}
 use Rattle.text.specs.Cut.{cut, every}
-use Rattle.text_trim.specs.Trim.{trim, trimStart, trimEnd}
+use Rattle.text_trim.specs.Trim.{trim, trimStart, trimEnd, edgeAfter, lead, encode}
 use Rattle.text_utf8.specs.Utf8.{utf8, rest}
 use Rattle.refusal.specs.Numbers.{numberOf}
 use Rattle.refusal.specs.declared.Error.the-variants.{BadRecord}
@@ -90,7 +90,7 @@ against-form-0-always r promise = promise
 
 -- a reading that calls every rule n
 pub against-every-rule-n : {Q : Pool} (r : Parsed) → Parses (parsed Shipped (bytes "+7")) Q r → Q ≡ packed (int 7)
-unfolding parsed tested made all trim trimStart trimEnd shipped parseIn parens level choose readNot indexOf indexFrom endFrom integer digitsFrom
+unfolding parsed tested made all trim trimStart trimEnd edgeAfter lead encode begins shipped parseIn parens level choose readNot indexOf indexFrom endFrom integer digitsFrom
 against-every-rule-n r promise = promise .stored
 
 -- a rating that never rates: n%10
@@ -115,7 +115,7 @@ fileH = set (set (take 44 fileF) 28 0) 36 24 ++ 0 ∷ 0 ∷ bytes "Plural-Forms:
 
 pub against-other-rule : {Q : Pool} (r : Loaded) → Loads (load plain [] fileH) Q r → Q ≡ packed (bin rem var (int 3))
 unfolding load entriesFrom entryStep header ruleAt readAt originalOf headOf orderOf word string contextEnd idStart idEnd context id utf8 rest front every cut
-    trim trimStart trimEnd same begins first named lastOf charset plural metadata utf8Label
+    trim trimStart trimEnd edgeAfter lead encode same begins first named lastOf charset plural metadata utf8Label
     parsed tested made all shipped parseIn parens level choose readNot indexOf indexFrom endFrom integer digitsFrom
 against-other-rule r promise = promise .rule-is
 

@@ -7,7 +7,7 @@ use mathlib.Core.List.{List, [], map}
 use lib.Dec.{eqb}
 use Rattle.text.specs.Bytes.{front, all, same, begins, first}
 use Rattle.text.specs.Cut.{cut, every}
-use Rattle.text_trim.specs.Trim.{trim, trimStart, trimEnd}
+use Rattle.text_trim.specs.Trim.{trim, trimStart, trimEnd, edgeAfter, lead, encode}
 use Rattle.text_utf8.specs.Utf8.{utf8, rest}
 use Rattle.refusal.specs.Numbers.{numberOf}
 use Rattle.refusal.specs.declared.Error.the-variants as error
@@ -96,7 +96,7 @@ computed (fitting s k) = read (parsed Standard s) (λ t. answered (fitsRange (ra
 
 -- is what document 01 says
 pub starred-holds : map (λ r. computed (r .0)) starred ≡ map (λ r. r .1) starred
-unfolding load entriesFrom entryStep header ruleAt readAt originalOf headOf orderOf word string contextEnd idStart idEnd context id utf8 rest front trim trimStart trimEnd
+unfolding load entriesFrom entryStep header ruleAt readAt originalOf headOf orderOf word string contextEnd idStart idEnd context id utf8 rest front trim trimStart trimEnd edgeAfter lead encode
     same begins first cut every named lastOf charset plural metadata utf8Label entry pieceAt segment lastIn lastWith lookup.plural pluralText
     parsed tested made all tokens lex standard shipped parseIn parens level choose readNot indexOf indexFrom endFrom integer digitsFrom
     evalTree binary negated chosen truthV rateTree binRange opRange condRange notRange fitsRange

@@ -71,6 +71,14 @@ fn headers_3() {
     shows(b"A:b\n\nPlural-Forms:plural=n\nB:c\nno colon");
 }
 
+fn headers_4() {
+    shows(b"\xc2\xa0Plural-Forms\xe3\x80\x80:\xe2\x80\xafplural=\xc2\x85n\xe2\x80\xa8;");
+    shows(b"Plural-Forms:nplurals=2;\xc2\xa0plural=n");
+    shows(b"\xe2\x80\x8bPlural-Forms:plural=n");
+    shows(b"Content-Type:charset=utf-8\xe1\x9a\x80");
+    shows(b"\xc2\xa0");
+}
+
 fn labels() {
     is_label(b"utf-8");
     is_label(b"UTF8");
@@ -86,5 +94,6 @@ fn main() {
     headers_1();
     headers_2();
     headers_3();
+    headers_4();
     labels();
 }

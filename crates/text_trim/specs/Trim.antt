@@ -1,63 +1,95 @@
--- Trimming. Document 01, "Header": white space is the six bytes 9 to 13 and 32; a charset label is trimmed of 9, 10, 12, 13, 32.
--- The definitions take any set of bytes.
-use Prim.Native.Nat.{ℕ}
+-- Trimming. Document 02 c: header names, values and rules are trimmed of the 25 characters of Unicode's White_Space. Document 01, "Header":
+-- names inside Plural-Forms are trimmed of the six bytes 9 to 13 and 32, a charset label of 9, 10, 12, 13 and 32.
+-- Characters stand in a text by their encodings (RFC 3629, section 3); the definitions take any list of encodings, and what lies between
+-- need not be UTF-8.
+use Prim.Native.Nat.{ℕ, zero, suc}
 use mathlib.Core.Path.{_≡_}
-use mathlib.Core.Bool.{Bool, true, false, _&&_, _||_}
-use mathlib.Core.List.{List, [], _∷_, _++_}
-use lib.Dec.{leb, eqb}
-use lib.ListN.{length}
-use Rattle.text.specs.Bytes.{all, front}
+use mathlib.Core.Bool.{true, false}
+use mathlib.Core.List.{List, [], _∷_, _++_, map}
+use lib.Dec.{eqb}
+use lib.ListN.{length, drop}
+use Rattle.text.specs.Bytes.{begins}
+unfoldable pub use Rattle.text_utf8.specs.Scalar.{encode}
 use Rattle.text_trim.specs.declared.Set.{Set}
-use Rattle.text_trim.specs.declared.Set.the-variants.{Six, Label}
+use Rattle.text_trim.specs.declared.Set.the-variants.{WhiteSpace, Six, Label}
 use Rattle.text_trim.specs.declared.Part.{Part}
 
-abbrev pub six : ℕ → Bool
-six b = (leb 9 b && leb b 13) || eqb b 32
+-- characters, each by the bytes of its encoding
+abbrev pub Chars : Type 0
+Chars = List (List ℕ)
 
-abbrev pub label : ℕ → Bool
-label b = (leb 9 b && leb b 10) || ((leb 12 b && leb b 13) || eqb b 32)
+abbrev pub whiteSpace : Chars
+whiteSpace =
+    map encode
+    (9 ∷ 10 ∷ 11 ∷ 12 ∷ 13 ∷ 0x20 ∷ 0x85 ∷ 0xA0 ∷ 0x1680
+    ∷ 0x2000 ∷ 0x2001 ∷ 0x2002 ∷ 0x2003 ∷ 0x2004 ∷ 0x2005 ∷ 0x2006 ∷ 0x2007 ∷ 0x2008 ∷ 0x2009 ∷ 0x200A
+    ∷ 0x2028 ∷ 0x2029 ∷ 0x202F ∷ 0x205F ∷ 0x3000 ∷ [])
 
-abbrev pub inSet : Set → ℕ → Bool
-inSet Six b = six b
-inSet Label b = label b
+abbrev pub six : Chars
+six = map encode (9 ∷ 10 ∷ 11 ∷ 12 ∷ 13 ∷ 0x20 ∷ [])
 
--- the first byte, if there is one, is not in the set; the last one is not
-abbrev pub Starts : (ℕ → Bool) → List ℕ → Type 0
-Starts w s = (b : ℕ) (t : List ℕ) → s ≡ b ∷ t → w b ≡ false
+abbrev pub label : Chars
+label = map encode (9 ∷ 10 ∷ 12 ∷ 13 ∷ 0x20 ∷ [])
 
-abbrev pub Ends : (ℕ → Bool) → List ℕ → Type 0
-Ends w s = (b : ℕ) (t : List ℕ) → s ≡ t ++ b ∷ [] → w b ≡ false
+abbrev pub charsOf : Set → Chars
+charsOf WhiteSpace = whiteSpace
+charsOf Six = six
+charsOf Label = label
+
+-- one of the characters
+pub data In (e : List ℕ) : Chars → Type 0 where
+  here : {d : List ℕ} {cs : Chars} → e ≡ d → In e (d ∷ cs)
+  there : {d : List ℕ} {cs : Chars} → In e cs → In e (d ∷ cs)
+
+-- a run of them
+pub data Run (cs : Chars) : List ℕ → Type 0 where
+  end : Run cs []
+  char : (e s : List ℕ) {t : List ℕ} → In e cs → t ≡ e ++ s → Run cs s → Run cs t
+
+-- none of them stands at the front; none at the end
+abbrev pub Starts : Chars → List ℕ → Type 0
+Starts cs m = (e t : List ℕ) → In e cs → m ≡ e ++ t → ⊥
+
+abbrev pub Ends : Chars → List ℕ → Type 0
+Ends cs m = (e t : List ℕ) → In e cs → m ≡ t ++ e → ⊥
 
 -- s is white, m and white, and m neither begins nor ends with white
-pub record Trimmed (w : ℕ → Bool) (s m : List ℕ) : Type 0 where
+pub record Trimmed (cs : Chars) (s m : List ℕ) : Type 0 where
   pub before : List ℕ
   pub after : List ℕ
   pub is : s ≡ before ++ m ++ after
-  pub white-before : all w before ≡ true
-  pub white-after : all w after ≡ true
-  pub starts : Starts w m
-  pub ends : Ends w m
+  pub white-before : Run cs before
+  pub white-after : Run cs after
+  pub starts : Starts cs m
+  pub ends : Ends cs m
 
--- the middle, computed: without the bytes of the set at the front, and at the end
-unfoldable pub trimStart : (ℕ → Bool) → List ℕ → List ℕ
-trimStart w [] = []
-trimStart w (b ∷ s) = elim (w b) [ true ↦ trimStart w s | false ↦ b ∷ s ]
+-- the middle, computed. How many bytes the character has that stands at the front: 0 where none does
+unfoldable pub lead : Chars → List ℕ → ℕ
+lead [] s = 0
+lead (e ∷ cs) s = elim (begins e s) [ true ↦ length e | false ↦ lead cs s ]
 
--- b before a text whose end is trimmed
-abbrev pub keep : Bool → ℕ → List ℕ → List ℕ
-keep true b [] = []
-keep true b (c ∷ t) = b ∷ c ∷ t
-keep false b t = b ∷ t
+-- how many bytes of them stand at the front, where the first k bytes belong to one
+unfoldable pub edgeAfter : Chars → ℕ → List ℕ → ℕ
+edgeAfter cs k [] = 0
+edgeAfter cs (suc k) (b ∷ s) = suc (edgeAfter cs k s)
+edgeAfter cs zero (b ∷ s) = elim (lead cs (b ∷ s)) [ zero ↦ 0 | suc k ↦ suc (edgeAfter cs k s) ]
 
-unfoldable pub trimEnd : (ℕ → Bool) → List ℕ → List ℕ
-trimEnd w [] = []
-trimEnd w (b ∷ s) = keep (w b) b (trimEnd w s)
+abbrev pub edge : Chars → List ℕ → ℕ
+edge cs s = edgeAfter cs 0 s
 
-unfoldable pub trim : (ℕ → Bool) → List ℕ → List ℕ
+-- without them at the front, and at the end: what stands before the first place from which all is white
+unfoldable pub trimStart : Chars → List ℕ → List ℕ
+trimStart cs s = drop (edge cs s) s
+
+unfoldable pub trimEnd : Chars → List ℕ → List ℕ
+trimEnd cs [] = []
+trimEnd cs (b ∷ s) = elim (eqb (edge cs (b ∷ s)) (suc (length s))) [ true ↦ [] | false ↦ b ∷ trimEnd cs s ]
+
+unfoldable pub trim : Chars → List ℕ → List ℕ
 unfolding trimStart trimEnd
-trim w s = trimEnd w (trimStart w s)
+trim cs s = trimEnd cs (trimStart cs s)
 
 -- the trimmed part of s: where it starts, and how long it is
 pub record Trims (set : Set) (s : List ℕ) (p : Part) : Type 0 where
-  pub start : p .start ≡ front (inSet set) s
-  pub len : p .len ≡ length (trim (inSet set) s)
+  pub start : p .start ≡ edge (charsOf set) s
+  pub len : p .len ≡ length (trim (charsOf set) s)

@@ -2,7 +2,7 @@
 use Prim.Native.Nat.{_≤_, _-_}
 use mathlib.Core.Path.{_∙_}
 use lib.ListN.{length}
-use Rattle.text_trim.specs.Trim.{six}
+use Rattle.text_trim.specs.Trim.{charsOf, whiteSpace}
 use Rattle.text.proofs.Cuts.{rest-bound}
 use Rattle.header_fields.specs.Fields.{named}
 use Rattle.header_fields.proofs.Places.{named-end, Met, met-none, met-last, met-more, piece-fits, found-so}
@@ -12,10 +12,10 @@ use Rattle.header_fields.proofs.last_of.Statement.{statement}
 use Rattle.header_fields.proofs.last_of.Tie as tie
 
 abbrev Inv-loop : tie.InvT-loop
-Inv-loop s c x name found₀ at₀ found at = (at ≤ length s) × Met (named six six x name) c s at found
+Inv-loop s c x name names found₀ at₀ found at = (at ≤ length s) × Met (named (charsOf names) whiteSpace x name) c s at found
 
 abbrev μ-loop : tie.MeasureT-loop
-μ-loop s c x name found₀ at₀ found at = length s - at
+μ-loop s c x name names found₀ at₀ found at = length s - at
 
 loop-holds : tie.Need-loop-holds Inv-loop μ-loop
 loop-holds c = (omega arith, met-none _ _ _)
@@ -36,7 +36,7 @@ named-value-requires : tie.Need-named-value-requires Inv-loop μ-loop
 named-value-requires c κs = search needs
 
 moved-requires : tie.Need-moved-requires Inv-loop μ-loop
-moved-requires c κs = omega (arith, piece-fits (named six six (c .before .before .before .before .before .before .args .x) (c .before .before .before .before .before .before .args .name .now)) (named-end six six (c .before .before .before .before .before .before .args .x) (c .before .before .before .before .before .before .args .name .now)) (c .before .before .before .before .before .before .args .s .now) (c .before .before .before .loop .at) _ (c .named-value .ensures) (omega (arith, c .before .before .find-byte-from .ensures)) (rest-bound (c .before .before .before .before .before .before .args .c) (c .before .before .before .before .before .before .args .s .now) (c .before .before .before .loop .at) _ (c .before .before .find-byte-from .ensures) (c .before .before .before .loop .inv .0)))
+moved-requires c κs = omega (arith, piece-fits (named (charsOf (c .before .before .before .before .before .before .args .names)) whiteSpace (c .before .before .before .before .before .before .args .x) (c .before .before .before .before .before .before .args .name .now)) (named-end (charsOf (c .before .before .before .before .before .before .args .names)) whiteSpace (c .before .before .before .before .before .before .args .x) (c .before .before .before .before .before .before .args .name .now)) (c .before .before .before .before .before .before .args .s .now) (c .before .before .before .loop .at) _ (c .named-value .ensures) (omega (arith, c .before .before .find-byte-from .ensures)) (rest-bound (c .before .before .before .before .before .before .args .c) (c .before .before .before .before .before .before .args .s .now) (c .before .before .before .loop .at) _ (c .before .before .find-byte-from .ensures) (c .before .before .before .loop .inv .0)))
 
 or-else-requires : tie.Need-or-else-requires Inv-loop μ-loop
 or-else-requires c κs = search needs

@@ -1,6 +1,6 @@
--- The front ends where the part starts, and the part without the set's bytes at its end is the trimmed text. Assumes nothing.
-use Rattle.text_trim.specs.Trim.{inSet}
-use Rattle.text.proofs.Front.{front-length}
+-- The front ends where the part starts, and the part without the set's characters at its end is the trimmed text. Assumes nothing.
+use Rattle.text_trim.specs.Trim.{charsOf}
+use Rattle.text_trim.proofs.Edges.{edge-le}
 use Rattle.text_trim.proofs.Trimming.{trim-length}
 use borrow.Author.Needs.{needs}
 use native.Mathlib.Omega.{arith}
@@ -11,10 +11,10 @@ white-front-requires : tie.Need-white-front-requires
 white-front-requires c κs = search needs
 
 sub-trimmed-end : tie.Need-sub-trimmed-end
-sub-trimmed-end c = omega (arith, front-length (inSet (c .before .before .args .set)) (c .before .before .args .s .now), c .white-front .ensures)
+sub-trimmed-end c = omega (arith, edge-le (charsOf (c .before .before .args .set)) (c .before .before .args .s .now), c .white-front .ensures)
 
 part-trimmed-end-start : tie.Need-part-trimmed-end-start
-part-trimmed-end-start c = omega (arith, front-length (inSet (c .before .before .args .set)) (c .before .before .args .s .now), c .white-front .ensures)
+part-trimmed-end-start c = omega (arith, edge-le (charsOf (c .before .before .args .set)) (c .before .before .args .s .now), c .white-front .ensures)
 
 part-trimmed-end-end : tie.Need-part-trimmed-end-end
 part-trimmed-end-end c = search needs
