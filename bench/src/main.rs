@@ -151,6 +151,8 @@ fn lookups(messages: &[Message], file: &[u8]) -> Lookups {
 }
 
 const RUSSIAN: &str = "n%10==1 && n%100!=11 ? 0 : n%10>=2 && n%10<=4 && (n%100<10 || n%100>=20) ? 1 : 2";
+const POLISH: &str = "n==1 ? 0 : n%10>=2 && n%10<=4 && (n%100<10 || n%100>=20) ? 1 : 2";
+const SLOVENIAN: &str = "n%100==1 ? 0 : n%100==2 ? 1 : n%100==3 || n%100==4 ? 2 : 3";
 const ARABIC: &str = "n==0 ? 0 : n==1 ? 1 : n==2 ? 2 : n%100>=3 && n%100<=10 ? 3 : n%100>=11 ? 4 : 5";
 
 fn lookup(rows: &mut Vec<Row>, scratch: &Path) {
@@ -235,36 +237,66 @@ fn crossover() -> BTreeMap<&'static str, usize> {
     most
 }
 
-/// A plural lookup in a catalog that has the header alone: almost all of it is the rule.
+/// The tree at a place of a rule, written out with every operator in brackets: so the crate reads that very tree.
+fn bracketed(r: &ffi::Record, at: usize) -> String {
+    const SIGNS: [&str; 9] = ["==", "!=", ">=", "<=", ">", "<", "&&", "||", "%"];
+    let (code, value) = (r.codes[at], r.values[at]);
+    let sign = SIGNS[(code % 16) as usize % 9];
+    let before = || bracketed(r, at - 1);
+    let first = || bracketed(r, r.places[2 * at] as usize);
+    let small = r.places[2 * at];
+    match code {
+        0 => "n".into(),
+        1 => format!("{value}"),
+        16..=31 => format!("(n{sign}{value})"),
+        32..=47 => format!("((n%{small}){sign}{value})"),
+        48 => format!("(!{})", before()),
+        49 => format!("({}?{value}:{small})", before()),
+        64..=79 => format!("({}{sign}{value})", before()),
+        80..=95 => format!("({}{sign}{})", first(), before()),
+        96 => format!("({}?{value}:{})", first(), before()),
+        _ => format!("({}?{}:{})", first(), bracketed(r, r.places[2 * at + 1] as usize), before()),
+    }
+}
+
+/// A plural lookup in a catalog that has the header alone: almost all of it is the rule. The crate is given the same tree; its own reading of
+/// the same text is a row beside Standard's.
 fn evaluation(rows: &mut Vec<Row>) {
-    for (name, rule) in [("n != 1", "n != 1"), ("Russian", RUSSIAN), ("Arabic", ARABIC)] {
-        // the Shipped reading is the crate's; a catalog that is meant to be read right asks for Standard
+    use gettext_rattle::Reading::{Shipped, Standard};
+    let rules = [("n != 1", "n != 1"), ("Russian", RUSSIAN), ("Polish", POLISH), ("Arabic", ARABIC), ("Slovenian", SLOVENIAN)];
+    for (name, rule) in rules {
         let (_, file) = generated(0, rule);
-        let ours = gettext_rattle::Catalog::parse_slice(&file).expect("it loads");
-        let standard = gettext_rattle::ParseOptions::new().reading(gettext_rattle::Reading::Standard).parse_slice(&file).expect("it loads");
-        let other = gettext::Catalog::parse(&file[..]).expect("it loads");
-        // a record can be altered, so each lookup tests that its nodes are a tree; where the last one has no known code, that is all
-        let mut broken = ffi::blank();
-        ffi::load(&file, None, false, false, &mut broken);
-        broken.codes[broken.head.nodes - 1] = 255;
-        let id = "no such message";
-        let each = race(
-            200,
-            [
-                &mut || (0..2000).for_each(|n| keep(ours.ngettext(black_box(id), "many", n))),
-                &mut || (0..2000).for_each(|n| keep(standard.ngettext(black_box(id), "many", n))),
-                &mut || (0..2000).for_each(|n| keep(other.ngettext(black_box(id), "many", n))),
-                &mut || (0..2000).for_each(|n| keep(ffi::resolve(black_box(&broken), n))),
-            ],
-        );
-        let [shipped, standard, theirs, test] = each.map(|seconds| seconds / 2000.0 * 1e9);
-        rows.push(faster("plural rule", format!("{name}, Shipped"), "ns", shipped, theirs, "crate"));
-        // so short a rule as n != 1 is known at sight
-        if name != "n != 1" {
-            let case = format!("{name}, Shipped, less the test that the record holds a tree ({test:.0} ns), which the crate has not");
-            rows.push(faster("plural rule", case, "ns", shipped - test, theirs, "crate"));
+        let own_way = gettext::Catalog::parse(&file[..]).expect("it loads");
+        for (reading, called) in [(Shipped, "Shipped"), (Standard, "Standard")] {
+            let ours = gettext_rattle::ParseOptions::new().reading(reading).parse_slice(&file).expect("it loads");
+            let mut record = ffi::blank();
+            ffi::load(&file, None, reading == Standard, false, &mut record);
+            let (_, same) = generated(0, &bracketed(&record, record.head.root));
+            let other = gettext::Catalog::parse(&same[..]).expect("it loads");
+            let id = "no such message";
+            let (_, forms) = generated(1, rule);
+            let (_, same_forms) = generated(1, &bracketed(&record, record.head.root));
+            let (message, _) = generated(1, rule);
+            let mine = gettext_rattle::ParseOptions::new().reading(reading).parse_slice(&forms).expect("it loads");
+            let theirs = gettext::Catalog::parse(&same_forms[..]).expect("it loads");
+            for n in 0..3000 {
+                assert_eq!(mine.ngettext(&message[0].id, "many", n), theirs.ngettext(&message[0].id, "many", n), "{name}, {called}, {n}");
+            }
+            let each = race(
+                400,
+                [
+                    &mut || (0..1000).for_each(|n| keep(ours.ngettext(black_box(id), "many", n))),
+                    &mut || (0..1000).for_each(|n| keep(other.ngettext(black_box(id), "many", n))),
+                    &mut || (0..1000).for_each(|n| keep(own_way.ngettext(black_box(id), "many", n))),
+                ],
+            );
+            let [mine, theirs, misread] = each.map(|seconds| seconds / 1000.0 * 1e9);
+            rows.push(faster("plural rule", format!("{name}, {called}, {} nodes", record.head.nodes), "ns", mine, theirs, "crate"));
+            if reading == Standard {
+                let case = format!("{name}, Standard, the crate reading it its own way");
+                rows.push(faster("plural rule", case, "ns", mine, misread, "crate"));
+            }
         }
-        rows.push(faster("plural rule", format!("{name}, Standard, the crate reading it its own way"), "ns", standard, theirs, "crate"));
     }
 }
 
