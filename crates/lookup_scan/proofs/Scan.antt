@@ -16,7 +16,7 @@ use Rattle.container_layout.specs.declared.Stretch.the-variants as stretch
 use Rattle.container_layout.proofs.Cells.{no-cell}
 use Rattle.lookup_scan.specs.Keys.{isKey, hitOf, lastIn, lastWith}
 use Rattle.lookup_scan.specs.Promise.{hitIf}
-use Rattle.lookup_scan.specs.Private.{ScanFrom}
+use Rattle.lookup_scan.specs.Private.{MayBe, ScanFrom}
 use Rattle.container_layout.specs.declared.Tables.{Tables}
 use Rattle.lookup_scan.specs.declared.Hit.{Hit}
 use Rattle.lookup_scan.specs.declared.Hit.the-variants as hit
@@ -82,6 +82,10 @@ module _ (s : List ℕ) (t : Tables) (key : List ℕ) where
 
     pub passed-miss : h ≡ hit.Missing → Passed s t key j
     passed-miss f = record { is = p .is ∙ ap (lastIn (entry s t) (isKey s key)) z ∙ step-miss j (sym e ∙ f) }
+
+  -- what the quick test rules out is passed
+  pub passed-quick : {i j n : ℕ} {r : Bool} → i ≡ suc j → MayBe s t j n r → r ≡ false → length key ≡ n → Passed s t key i → Passed s t key j
+  passed-quick {i} {j} z m f l p = passed-miss z (hit-false j (m .no f key l)) p refl
 
   -- the entry as the code has it
   pub told-none : {x : Entry} (i : ℕ) → x ≡ entry s t i → x ≡ entries.NoEntry → hit.Missing ≡ hitIf s t key i

@@ -75,7 +75,22 @@ fn may_be(file: &[u8], t: Tables, i: usize, n: usize) -> bool
     file[end] == 0
 }
 
-// Entry i, where it has the key, which is n bytes long. Every search asks this of an entry.
+// Entry i, where it has the key.
+fn found_at(file: &[u8], t: Tables, i: usize, given: bool, context: &[u8], id: &[u8]) -> Hit
+    ensures { λ r. ⌜ r ≡ hitIf (now (file .entry)) t (keyOf given (now (context .entry)) (now (id .entry))) i ⌝ }
+{
+    let entry = container_layout::entry_at(file, t, i);
+    let Entry::At(at, size, start, len) = entry else {
+        return Hit::Missing;
+    };
+    let end = at + size;
+    if key_is(&file[at..end], given, context, id) {
+        return Hit::At(i, start, len);
+    }
+    Hit::Missing
+}
+
+// The same, after the quick test, of a key that is n bytes long: what other searches ask of an entry.
 pub fn hit_at(
     file: &[u8],
     t: Tables,
@@ -91,15 +106,7 @@ pub fn hit_at(
     if !may_be(file, t, i, n) {
         return Hit::Missing;
     }
-    let entry = container_layout::entry_at(file, t, i);
-    let Entry::At(at, size, start, len) = entry else {
-        return Hit::Missing;
-    };
-    let end = at + size;
-    if key_is(&file[at..end], given, context, id) {
-        return Hit::At(i, start, len);
-    }
-    Hit::Missing
+    found_at(file, t, i, given, context, id)
 }
 
 // Where the scan starts: no index from there on has its cell in the file.
@@ -118,7 +125,7 @@ fn scan_from(file: &[u8], t: Tables) -> usize
     count
 }
 
-// The last entry with the key: the entries are passed from the last one down.
+// The last entry with the key: the entries are passed from the last one down, most of them by the quick test alone.
 pub fn last_hit(file: &[u8], t: Tables, given: bool, context: &[u8], id: &[u8]) -> Hit
     ensures { λ r. ⌜ r ≡ lastWith (now (file .entry)) t (keyOf given (now (context .entry)) (now (id .entry))) ⌝ }
 {
@@ -131,9 +138,11 @@ pub fn last_hit(file: &[u8], t: Tables, given: bool, context: &[u8], id: &[u8]) 
     while passed < most {
         passed += 1;
         let i = most - passed;
-        let hit = hit_at(file, t, i, n, given, context, id);
-        if let Hit::At(entry, start, len) = hit {
-            return Hit::At(entry, start, len);
+        if may_be(file, t, i, n) {
+            let hit = found_at(file, t, i, given, context, id);
+            if let Hit::At(entry, start, len) = hit {
+                return Hit::At(entry, start, len);
+            }
         }
     }
     Hit::Missing

@@ -1,11 +1,12 @@
+-- The entries are passed from the last one down, by the quick test or by their key. Assumes nothing.
 use Prim.Native.Nat.{_-_, _≤_}
-use mathlib.Core.Path.{_≡_}
+use mathlib.Core.Path.{_≡_, sym}
 use lib.ListN.{length}
 use native.Mathlib.Omega.{arith}
 use borrow.Author.Needs.{needs}
 use Rattle.lookup_scan.specs.Keys.{keyOf}
 use Rattle.lookup_scan.proofs.Keys.{sized-is, sized-long}
-use Rattle.lookup_scan.proofs.Scan.{too-long, Passed, passed-first, passed-end, passed-hit, passed-miss}
+use Rattle.lookup_scan.proofs.Scan.{too-long, Passed, passed-first, passed-end, passed-hit, passed-miss, passed-quick}
 use Rattle.lookup_scan.proofs.last_hit.Statement.{statement}
 use Rattle.lookup_scan.proofs.last_hit.Tie as tie
 
@@ -39,14 +40,17 @@ add-passed c = search needs
 sub-i : tie.Need-sub-i Inv-loop μ-loop
 sub-i c = search needs
 
-hit-at-requires : tie.Need-hit-at-requires Inv-loop μ-loop
-hit-at-requires c κs = c .before .loop .inv .0
+may-be-requires : tie.Need-may-be-requires Inv-loop μ-loop
+may-be-requires c κs = search needs
+
+found-at-requires : tie.Need-found-at-requires Inv-loop μ-loop
+found-at-requires c κs = search needs
 
 enum-known-hit : tie.Need-enum-known-hit Inv-loop μ-loop
 enum-known-hit c = search needs
 
 returns-2 : tie.Need-returns-2 Inv-loop μ-loop
-returns-2 c = passed-hit _ _ _ (omega arith) (c .before .before .before .hit-at .ensures) (c .before .before .before .before .before .loop .inv .2) (c .before .hit .given .1)
+returns-2 c = passed-hit _ _ _ (omega arith) (c .before .before .before .found-at .ensures) (c .before .before .before .before .before .before .before .loop .inv .2) (c .before .hit .given .1)
 
 enum-told-2 : tie.Need-enum-told-2 Inv-loop μ-loop
 enum-told-2 c = search needs
@@ -55,7 +59,13 @@ loop-less : tie.Need-loop-less Inv-loop μ-loop
 loop-less c = search needs
 
 loop-again : tie.Need-loop-again Inv-loop μ-loop
-loop-again c = (c .before .before .before .before .loop .inv .0, omega arith, passed-miss _ _ _ (omega arith) (c .before .before .hit-at .ensures) (c .before .before .before .before .loop .inv .2) (c .enum-told2 .given .1))
+loop-again c = (c .before .before .before .before .before .before .loop .inv .0, omega arith, passed-miss _ _ _ (omega arith) (c .before .before .found-at .ensures) (c .before .before .before .before .before .before .loop .inv .2) (c .enum-told2 .given .1))
+
+loop-less-2 : tie.Need-loop-less-2 Inv-loop μ-loop
+loop-less-2 c = search needs
+
+loop-again-2 : tie.Need-loop-again-2 Inv-loop μ-loop
+loop-again-2 c = (c .before .before .before .loop .inv .0, omega arith, passed-quick _ _ _ (omega arith) (c .before .may-be .ensures) (c .if1 .left) (sym (c .before .before .before .loop .inv .0)) (c .before .before .before .loop .inv .2))
 
 returns-3 : tie.Need-returns-3 Inv-loop μ-loop
 returns-3 c = passed-end _ _ _ (omega arith) (c .before .loop .inv .2)
@@ -74,10 +84,13 @@ last-hit-spec =
     loop-holds
     add-passed
     sub-i
-    hit-at-requires
+    may-be-requires
+    found-at-requires
     enum-known-hit
     returns-2
     enum-told-2
     loop-less
     loop-again
+    loop-less-2
+    loop-again-2
     returns-3)
