@@ -128,9 +128,8 @@ fn spaced(oracle: &mut Oracle, seed: u64, i: u64) -> Result<(), String> {
         0 => oracle.rule(&mut rng, &rule, &COUNTS[..9]).map_err(|e| format!("rule {}: {e}", hex(&rule))),
         1 => oracle.forced(&mut rng, &bytes, &rule).map_err(|e| format!("forced rule {}: {e}\n  file {}", hex(&rule), hex(&bytes))),
         _ => oracle.file(&mut rng, &bytes, &bytes, None, false, Depth::Some).map_err(|e| {
-            let differs = |oracle: &mut Oracle, bytes: &[u8]| {
-                oracle.file(&mut again.clone(), bytes, bytes, None, false, Depth::Some).err()
-            };
+            let differs =
+                |oracle: &mut Oracle, bytes: &[u8]| oracle.file(&mut again.clone(), bytes, bytes, None, false, Depth::Some).err();
             shrink::file(oracle, bytes.clone(), e, differs)
         }),
     }
