@@ -55,9 +55,10 @@ rem-in h l m x y false e p q r =
 
 -- a quotient of the least by the greatest is the least, and the other way round
 over-in : (k h l m x y : ℕ) → 0 < l → k ≤ x → x ≤ h → l ≤ y → y ≤ m → (k / m ≤ x / y) × (x / y ≤ h / l)
-over-in k h l m x y pos p q r s =
-    (le-div-iff-mul-le {k = y} (omega arith) .1 (omega (arith, mul-le-mul-left (k / m) s, div-mul-le-self k m)),
-    le-div-iff-mul-le {k = l} pos .1 (omega (arith, mul-le-mul-left (x / y) r, div-mul-le-self x y)))
+over-in k h l m x y pos p q r s = (
+  le-div-iff-mul-le {k = y} (omega arith) .1 (omega (arith, mul-le-mul-left (k / m) s, div-mul-le-self k m)),
+  le-div-iff-mul-le {k = l} pos .1 (omega (arith, mul-le-mul-left (x / y) r, div-mul-le-self x y)),
+)
 
 div-in : (k h l m x y : ℕ) (b : Bool) → eqb l 0 ≡ b → k ≤ x → x ≤ h → l ≤ y → y ≤ m
     → Within (pickR b Unrated (Range (k / m) (h / l))) (pickV (eqb y 0) ZeroModulus (Is (x / y)))
