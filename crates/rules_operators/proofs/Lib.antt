@@ -1,4 +1,4 @@
 mod Halves
-mod Operators
+pub mod Operators
 pub mod Given
 pub mod Unique
