@@ -9,8 +9,8 @@ use Rattle.refusal.specs.declared.Outcome.{Outcome}
 use Rattle.refusal.specs.declared.Outcome.the-variants as outcome
 use Rattle.rules.specs.Tree.{Tree}
 use Rattle.rules.specs.Pool.{Pool}
-use Rattle.rules.specs.Store.{size}
-use Rattle.rules.proofs.Stored.{size-pos}
+use Rattle.rules.specs.Pack.{packedSize}
+use Rattle.rules.proofs.Stored.{packed-pos}
 use Rattle.reading_rule.specs.Plurals as plurals
 use Rattle.reading_rule.specs.Plurals.{Parse, rule, norule, parsed, Parses}
 use Rattle.reading_rule.specs.declared.Parsed.{Parsed}
@@ -169,5 +169,5 @@ module _ (o : Options) (f s : List ℕ) {forced : Parsed} {P : Pool} (g : Parses
               (record { outcome-is = refl; tables-are = refl; nodes-are = gives .nodes; rule-is = gives .stored })
 
 -- a rule has a node
-pub some-nodes : (r : Tree) {k : ℕ} → k ≡ size r → 0 < k
-some-nodes r e = omega (arith, size-pos r)
+pub some-nodes : (r : Tree) {k : ℕ} → k ≡ packedSize r → 0 < k
+some-nodes r e = omega (arith, packed-pos r)

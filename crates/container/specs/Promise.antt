@@ -5,7 +5,7 @@ use Rattle.refusal.specs.declared.Outcome.{Outcome}
 use Rattle.refusal.specs.declared.Outcome.the-variants.{Loaded, Refused}
 use Rattle.rules.specs.Tree.{Tree, defaultTree}
 use Rattle.rules.specs.Pool.{Pool, pool}
-use Rattle.rules.specs.Store.{store, size, blank}
+use Rattle.rules.specs.Pack.{packed, packedSize}
 use Rattle.container_layout.specs.declared.Tables.{Tables}
 use Rattle.container.specs.Catalog.{Answer, accepted, refused, noTables, tablesIn, treeIn}
 use Rattle.container.specs.declared.Record.{Record}
@@ -20,22 +20,22 @@ outcomeOf (refused e) = Refused e
 pub record Empties (b : Outcome) (Q : Pool) (r : Loading) : Type 0 where
   pub outcome-is : r .outcome ≡ b
   pub tables-are : r .tables ≡ noTables
-  pub nodes-are : r .nodes ≡ size defaultTree
-  pub rule-is : Q ≡ store defaultTree 0 blank
+  pub nodes-are : r .nodes ≡ packedSize defaultTree
+  pub rule-is : Q ≡ packed defaultTree
 
 -- what a load answers
 pub record Loads (a : Answer) (Q : Pool) (r : Loading) : Type 0 where
   pub outcome-is : r .outcome ≡ outcomeOf a
   pub tables-are : r .tables ≡ tablesIn a
-  pub nodes-are : r .nodes ≡ size (treeIn a)
-  pub rule-is : Q ≡ store (treeIn a) 0 blank
+  pub nodes-are : r .nodes ≡ packedSize (treeIn a)
+  pub rule-is : Q ≡ packed (treeIn a)
 
 -- a record of those tables and that rule, whose root is its last node
 pub record Holds (t : Tables) (tree : Tree) (r : Record) : Type 0 where
   pub tables-are : r .tables ≡ t
-  pub rule-is : pool (r .codes) (r .places) (r .values) ≡ store tree 0 blank
-  pub nodes-are : r .nodes ≡ size tree
-  pub root-is : r .root ≡ size tree - 1
+  pub rule-is : pool (r .codes) (r .places) (r .values) ≡ packed tree
+  pub nodes-are : r .nodes ≡ packedSize tree
+  pub root-is : r .root ≡ packedSize tree - 1
 
 abbrev pub Empty : Record → Type 0
 Empty r = Holds noTables defaultTree r

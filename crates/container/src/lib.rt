@@ -23,7 +23,7 @@ pub struct Options {
 pub struct Record {
     pub tables: Tables,
     pub codes: [u8; 512],
-    pub places: [u16; 1536],
+    pub places: [u16; 1024],
     pub values: [u64; 512],
     pub nodes: usize,
     pub root: usize,
@@ -59,7 +59,7 @@ pub fn empty() -> Record
     ensures { λ r. ⌜ Empty r ⌝ }
 {
     let mut codes = [0u8; 512];
-    let mut places = [0u16; 1536];
+    let mut places = [0u16; 1024];
     let mut values = [0u64; 512];
     let nodes = rules::put_default(&mut codes, &mut places, &mut values);
     Record {
@@ -103,7 +103,7 @@ fn parse_rest(file: &[u8], t: Tables) -> Outcome
 pub fn empty_into(
     outcome: Outcome,
     codes: &mut [u8; 512],
-    places: &mut [u16; 1536],
+    places: &mut [u16; 1024],
     values: &mut [u64; 512],
 ) -> Loading
     ensures { λ r. ⌜ Empties outcome (pool (now (codes .exit)) (now (places .exit)) (now (values .exit))) r ⌝ }
@@ -132,7 +132,7 @@ pub fn load_into<'a>(
     rule: &'a [u8],
     options: Options,
     codes: &mut [u8; 512],
-    places: &mut [u16; 1536],
+    places: &mut [u16; 1024],
     values: &mut [u64; 512],
 ) -> Loading
     ensures { λ r. ⌜ Loads (load options (now (rule .entry)) (now (file .entry))) (pool (now (codes .exit)) (now (places .exit)) (now (values .exit))) r ⌝ }
@@ -169,7 +169,7 @@ pub fn load<'a>(file: &'a [u8], rule: &'a [u8], options: Options) -> Loaded
     ensures { λ r. ⌜ Opens (load options (now (rule .entry)) (now (file .entry))) r ⌝ }
 {
     let mut codes = [0u8; 512];
-    let mut places = [0u16; 1536];
+    let mut places = [0u16; 1024];
     let mut values = [0u64; 512];
     let loading = load_into(file, rule, options, &mut codes, &mut places, &mut values);
     let nodes = loading.nodes;

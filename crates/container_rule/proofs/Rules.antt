@@ -10,7 +10,7 @@ use Rattle.refusal.specs.declared.Error.{Error}
 use Rattle.refusal.specs.declared.Outcome.the-variants as outcome
 use Rattle.rules.specs.Tree.{Tree, defaultTree}
 use Rattle.rules.specs.Pool.{Pool}
-use Rattle.rules.specs.Store.{size, store, blank}
+use Rattle.rules.specs.Pack.{packedSize, packed}
 use Rattle.reading_rule.specs.Plurals.{rule, norule, parsed, Parses}
 use Rattle.reading_rule.specs.declared.Reading.{Reading}
 use Rattle.reading_rule.specs.declared.Parsed.{Parsed}
@@ -22,7 +22,7 @@ use Rattle.container_rule.specs.declared.First.{First}
 use Rattle.container_rule.specs.declared.First.the-variants as first
 
 -- a tree alone in the arrays, of k nodes, is a rule
-pub a-rule : {t : Tree} {Q : Pool} {k : ℕ} → Q ≡ store t 0 blank → k ≡ size t → Parses (rule t) Q (record { outcome = outcome.Loaded; nodes = k })
+pub a-rule : {t : Tree} {Q : Pool} {k : ℕ} → Q ≡ packed t → k ≡ packedSize t → Parses (rule t) Q (record { outcome = outcome.Loaded; nodes = k })
 a-rule e f = record { outcome = refl; nodes = f; stored = e }
 
 -- a forced rule is read, else the default stands
@@ -48,7 +48,7 @@ module _ (reading : Reading) (s : List ℕ) {f : First} {k : ℕ} {P Q : Pool} w
   rule-refused e g = record { chosen = rw e g }
 
 -- the stage's rule, whatever tree was there before
-module _ (reading : Reading) (s : List ℕ) (t : Tree) {k : ℕ} {P Q : Pool} {r : Parsed} (stored : P ≡ store t 0 blank) (nodes : k ≡ size t) where
+module _ (reading : Reading) (s : List ℕ) (t : Tree) {k : ℕ} {P Q : Pool} {r : Parsed} (stored : P ≡ packed t) (nodes : k ≡ packedSize t) where
   by-place : (f : First) → Chosen reading s f k P Q r → Parses (ruleIn reading s t f) Q r
   by-place (first.Rule (At a l)) p = p
   by-place (first.Rule Absent) p = rw (p .0, p .1) (a-rule stored nodes)

@@ -100,7 +100,7 @@ pub fn parse_forced(
     given: bool,
     reading: Reading,
     codes: &mut [u8; 512],
-    places: &mut [u16; 1536],
+    places: &mut [u16; 1024],
     values: &mut [u64; 512],
 ) -> Parsed
     ensures { λ r. ⌜ Parses (forcedRule given reading (now (text .entry))) (pool (now (codes .exit)) (now (places .exit)) (now (values .exit))) r ⌝ }
@@ -122,7 +122,7 @@ pub fn rule_of(
     before: usize,
     reading: Reading,
     codes: &mut [u8; 512],
-    places: &mut [u16; 1536],
+    places: &mut [u16; 1024],
     values: &mut [u64; 512],
 ) -> Parsed
     requires { ⌜ endOfRule first ≤ length (now file) ⌝ }

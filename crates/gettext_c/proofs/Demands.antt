@@ -18,7 +18,7 @@ use Rattle.rules.specs.Tree.{Tree, defaultTree}
 use Rattle.rules.specs.Value.{evalTree}
 use Rattle.rules.specs.Range.{rateTree}
 use Rattle.rules.specs.Pool.{Pool}
-use Rattle.rules.specs.Store.{store, blank}
+use Rattle.rules.specs.Pack.{packed}
 use Rattle.rules.specs.Answer.{formOf, resolvedOf, ratedOf, fitOf}
 use Rattle.rules.specs.declared.Value.{Value}
 use Rattle.rules.specs.declared.Value.the-variants as value
@@ -77,11 +77,11 @@ pub nothing-asked : AsksNothing 3 empty-kinds.ps empty.Pre × AsksNothing 4 load
 nothing-asked = (λ κs a. tt, λ κs a. tt, λ κs a. tt, λ κs a. tt, λ κs a. tt, λ κs a. tt, λ κs a. tt, λ κs a. tt, λ κs a. tt, λ κs a. tt)
 
 -- a refused load gives the empty catalog
-refused-empty : (a : Answer) {Q : Pool} {r : Loaded} → Loads a Q r → (r .number ≡ 0 → ⊥) → (tablesIn (r .head) ≡ noTables) × (Q ≡ store defaultTree 0 blank)
+refused-empty : (a : Answer) {Q : Pool} {r : Loaded} → Loads a Q r → (r .number ≡ 0 → ⊥) → (tablesIn (r .head) ≡ noTables) × (Q ≡ packed defaultTree)
 refused-empty (accepted t u) h n = absurd (n (h .number-is))
 refused-empty (refused e) h n = (h .tables-are, h .rule-is)
 
-pub refused-load : (o : Options) (f s : List ℕ) {Q : Pool} {r : Loaded} → Loads (load o f s) Q r → (r .number ≡ 0 → ⊥) → (tablesIn (r .head) ≡ noTables) × (Q ≡ store defaultTree 0 blank)
+pub refused-load : (o : Options) (f s : List ℕ) {Q : Pool} {r : Loaded} → Loads (load o f s) Q r → (r .number ≡ 0 → ⊥) → (tablesIn (r .head) ≡ noTables) × (Q ≡ packed defaultTree)
 refused-load o f s h n = refused-empty (load o f s) h n
 
 -- a refused lookup gives the caller's own id or plural id, with 10 or 11

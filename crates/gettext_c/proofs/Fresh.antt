@@ -17,7 +17,7 @@ use Rattle.refusal.specs.declared.Outcome.the-variants as outcome
 use Rattle.rules.specs.Value.{evalTree}
 use Rattle.rules.specs.Range.{rateTree, fitsRange}
 use Rattle.rules.specs.Pool.{Pool, treeOf, isTree}
-use Rattle.rules.specs.Store.{size}
+use Rattle.rules.specs.Pack.{packedSize}
 use Rattle.rules.specs.Answer.{formOf, rangeOf, fitting, resolvedOf, ratedOf, fitOf}
 use Rattle.rules.specs.declared.Value.{Value}
 use Rattle.rules.specs.declared.Value.the-variants as value
@@ -89,7 +89,7 @@ unfolding plural
 long-number s t v h e = ap number (taken (byRule s v h) reason.StaleLength (eq-eqb (length s) (t .length) e))
 
 module _ (o : Options) (f s : List ℕ) {Q : Pool} {r : Loaded} (loads : Loads (load o f s) Q r) where
-  nodes-are : nodesIn (r .head) ≡ size (treeIn (load o f s))
+  nodes-are : nodesIn (r .head) ≡ packedSize (treeIn (load o f s))
   nodes-are = ap (λ (h : List ℕ). getD h 5 0) (loads .head-is)
 
   root-is : rootIn (r .head) ≡ nodesIn (r .head) - 1

@@ -6,7 +6,7 @@ use mathlib.Core.List.{List}
 use Rattle.refusal.specs.Numbers.{outcomeNumber}
 use Rattle.rules.specs.Tree.{defaultTree}
 use Rattle.rules.specs.Pool.{Pool}
-use Rattle.rules.specs.Store.{store, size, blank}
+use Rattle.rules.specs.Pack.{packed, packedSize}
 use Rattle.rules.specs.Answer.{resolvedOf}
 use Rattle.lookup_scan.specs.Keys.{lastWith}
 use Rattle.lookup.specs.Lookup.{singular, plural}
@@ -20,15 +20,15 @@ use Rattle.host.specs.declared.Loaded.{Loaded}
 -- a load answers the number, the head, which says the tables, and the arrays of its answer; Q are the arrays at exit
 pub record Loads (a : Answer) (Q : Pool) (r : Loaded) : Type 0 where
   pub number-is : r .number ≡ outcomeNumber (outcomeOf a)
-  pub head-is : r .head ≡ headOf (tablesIn a) (size (treeIn a))
+  pub head-is : r .head ≡ headOf (tablesIn a) (packedSize (treeIn a))
   pub tables-are : host.tablesIn (r .head) ≡ tablesIn a
-  pub rule-is : Q ≡ store (treeIn a) 0 blank
+  pub rule-is : Q ≡ packed (treeIn a)
 
 pub record IsEmpty (Q : Pool) (r : Loaded) : Type 0 where
   pub number-is : r .number ≡ 0
-  pub head-is : r .head ≡ headOf noTables (size defaultTree)
+  pub head-is : r .head ≡ headOf noTables (packedSize defaultTree)
   pub tables-are : host.tablesIn (r .head) ≡ noTables
-  pub rule-is : Q ≡ store defaultTree 0 blank
+  pub rule-is : Q ≡ packed defaultTree
 
 -- a lookup of a key in the file s by a head h, and one with a count and the rule P
 abbrev pub found : List ℕ → List ℕ → List ℕ → Reason

@@ -24,7 +24,7 @@ ghost use Rattle.gettext_c.specs.Record.{Loads, IsEmpty, found, counted}
 #[no_mangle]
 pub extern "C" fn gettext_c_empty(
     codes: &mut [u8; 512],
-    places: &mut [u16; 1536],
+    places: &mut [u16; 1024],
     values: &mut [u64; 512],
 ) -> Loaded
     ensures { λ r. ⌜ IsEmpty (pool (now (codes .exit)) (now (places .exit)) (now (values .exit))) r ⌝ }
@@ -42,7 +42,7 @@ pub extern "C" fn gettext_c_load<'a>(
     standard: u32,
     utf8: u32,
     codes: &mut [u8; 512],
-    places: &mut [u16; 1536],
+    places: &mut [u16; 1024],
     values: &mut [u64; 512],
 ) -> Loaded
     ensures { λ r. ⌜ Loads (load (optionsOf forced standard utf8) (now (rule .entry)) (now (file .entry)))
@@ -83,7 +83,7 @@ pub extern "C" fn gettext_c_ngettext<'a>(
     file: &'a [u8],
     head: &'a [usize; 7],
     codes: &'a [u8; 512],
-    places: &'a [u16; 1536],
+    places: &'a [u16; 1024],
     values: &'a [u64; 512],
     id: &'a [u8],
     n: u64,
@@ -114,7 +114,7 @@ pub extern "C" fn gettext_c_npgettext<'a>(
     file: &'a [u8],
     head: &'a [usize; 7],
     codes: &'a [u8; 512],
-    places: &'a [u16; 1536],
+    places: &'a [u16; 1024],
     values: &'a [u64; 512],
     context: &'a [u8],
     id: &'a [u8],
@@ -146,7 +146,7 @@ pub extern "C" fn gettext_c_npgettext<'a>(
 pub extern "C" fn gettext_c_rating<'a>(
     head: &'a [usize; 7],
     codes: &'a [u8; 512],
-    places: &'a [u16; 1536],
+    places: &'a [u16; 1024],
     values: &'a [u64; 512],
 ) -> Rating
     ensures { λ r. ⌜ r ≡ ratingOf (ratedOf (pool (now (codes .entry)) (now (places .entry)) (now (values .entry)))
@@ -162,7 +162,7 @@ pub extern "C" fn gettext_c_rating<'a>(
 pub extern "C" fn gettext_c_fits<'a>(
     head: &'a [usize; 7],
     codes: &'a [u8; 512],
-    places: &'a [u16; 1536],
+    places: &'a [u16; 1024],
     values: &'a [u64; 512],
     k: u64,
 ) -> Fits
@@ -179,7 +179,7 @@ pub extern "C" fn gettext_c_fits<'a>(
 pub extern "C" fn gettext_c_resolve<'a>(
     head: &'a [usize; 7],
     codes: &'a [u8; 512],
-    places: &'a [u16; 1536],
+    places: &'a [u16; 1024],
     values: &'a [u64; 512],
     n: u64,
 ) -> Form

@@ -8,7 +8,7 @@ use lib.ListN.{length, getD, take, drop}
 use lib.Seq.{drop-cons}
 use borrow.Author.Tests.{lt-ltb, le-ltb}
 use Rattle.rules.specs.Tree.{rem}
-use Rattle.rules.specs.Store.{opCode}
+use Rattle.rules.specs.Operator.{opCode}
 use Rattle.reading_scan.specs.Scan.{indexOf}
 use Rattle.levels.specs.Levels.{row, rows, binary, rowAt, rowOf, codeOf}
 
@@ -20,7 +20,7 @@ abbrev pub widths : List ℕ
 widths = 2 ∷ 2 ∷ 1 ∷ 2 ∷ 1 ∷ 2 ∷ 1 ∷ 2 ∷ 2 ∷ 1 ∷ []
 
 abbrev pub codes : List ℕ
-codes = 10 ∷ 11 ∷ 3 ∷ 6 ∷ 8 ∷ 7 ∷ 9 ∷ 4 ∷ 5 ∷ 12 ∷ []
+codes = 86 ∷ 87 ∷ 112 ∷ 82 ∷ 84 ∷ 83 ∷ 85 ∷ 80 ∷ 81 ∷ 88 ∷ []
 
 pub record Right (l : ℕ) : Type 0 where
   pub width : getD widths l 0 ≡ length (rowAt l .pattern)

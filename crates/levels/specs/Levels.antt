@@ -6,7 +6,7 @@ use mathlib.Core.List.{List, [], _∷_}
 use lib.ListN.{length, getD}
 use lib.Dec.{ltb}
 use Rattle.rules.specs.Tree.{Op, cmp, and, or, rem, eq, ne, ge, le, gt, lt}
-use Rattle.rules.specs.Store.{opCode}
+use Rattle.rules.specs.Store.{nodeCode}
 use Rattle.reading_scan.specs.Scan.{indexOf}
 
 -- the levels, in the order in which the Rust tries them: the pattern that is sought, and what the text is cut into there
@@ -50,5 +50,5 @@ rowOf (r ∷ rs) s = elim (found (r .pattern) s) [ true ↦ 0 | false ↦ suc (r
 
 -- the code of the node that a row makes
 abbrev pub codeOf : Kind → ℕ
-codeOf (binary op) = opCode op
-codeOf ternary = 3
+codeOf (binary op) = nodeCode op
+codeOf ternary = 112

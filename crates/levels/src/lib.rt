@@ -1,5 +1,6 @@
 // The levels of the Shipped reading: the first that cuts a text, and where. A port of plurals.rs: the patterns of `parse_and`, `parse_or`,
 // .. `parse_mod`, in the order in which they are tried.
+use rules::node;
 ghost use mathlib.Core.Path.{_≡_};
 ghost use Prim.Native.Nat.{_<_};
 ghost use lib.ListN.{length};
@@ -11,7 +12,18 @@ const SIGNS: [u8; 20] = *b"&&||?\0>=>\0<=<\0==!=%\0";
 
 const WIDTHS: [usize; 10] = [2, 2, 1, 2, 1, 2, 1, 2, 2, 1];
 
-const CODES: [u8; 10] = [10, 11, 3, 6, 8, 7, 9, 4, 5, 12];
+const CODES: [u8; 10] = [
+    node::OP + node::AND,
+    node::OP + node::OR,
+    node::TERNARY,
+    node::OP + node::GREATER_OR_EQUAL,
+    node::OP + node::GREATER,
+    node::OP + node::SMALLER_OR_EQUAL,
+    node::OP + node::SMALLER,
+    node::OP + node::EQUAL,
+    node::OP + node::NOT_EQUAL,
+    node::OP + node::MODULO,
+];
 
 // How many signs the pattern of a row has.
 pub fn width_of(row: usize) -> usize

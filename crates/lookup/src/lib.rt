@@ -61,7 +61,7 @@ pub fn nfind<'a, 'b>(
     file: &'a [u8],
     t: Tables,
     codes: &'b [u8; 512],
-    places: &'b [u16; 1536],
+    places: &'b [u16; 1024],
     values: &'b [u64; 512],
     nodes: usize,
     root: usize,

@@ -1,6 +1,6 @@
 -- The steps of the code against the definition: the bytes as a loop meets them, what a reader's answer says of the reading, and which
 -- case each test leaves. Assumes nothing.
-use Prim.Native.Nat.{ℕ, _+_, _<_, _≤_}
+use Prim.Native.Nat.{ℕ, _+_, _-_, _<_, _≤_}
 use mathlib.Core.Path.{_≡_, refl, sym, ap, _∙_}
 use mathlib.Core.Bool.{Bool, true, false, not}
 use mathlib.Core.List.{List}
@@ -13,7 +13,11 @@ use Rattle.text_trim.specs.Trim.{trim, six}
 use Rattle.text.proofs.Walk.{rest-at, rest-end}
 use Rattle.rules.specs.Tree as tree
 use Rattle.rules.specs.Tree.{Tree}
-use Rattle.rules.specs.Pool.{Pool}
+use Rattle.rules.specs.Pool.{Pool, treeOf}
+use Rattle.rules.specs.Sound.{Plain}
+use Rattle.rules.specs.Pack.{packedSize, packed}
+use Rattle.rules.proofs.Packs.{no-more}
+use Rattle.rules.proofs.Unfolded.{size-pos, stored-tree, stored-plain}
 use Rattle.rules.specs.Store.{size, store, blank}
 use Rattle.rules.specs.Reads.{Answered}
 use Rattle.rules.specs.declared.Nodes.{Nodes}
@@ -66,27 +70,49 @@ none-made (tree.tree t) a =
     absurd (omega arith)
 none-made tree.none a = refl
 
--- a tree was found: k is its size, and Q the arrays
-pub record Found (o : tree.Reading) (k : ℕ) (P Q : Pool) : Type 0 where
+-- a tree was found in m bytes: k is its size, and Q the arrays
+pub record Found (o : tree.Reading) (m k : ℕ) (P Q : Pool) : Type 0 where
   pub is-tree : Tree
   pub is : o ≡ tree.tree is-tree
   pub count : k ≡ size is-tree
   pub stored : Q ≡ store is-tree 0 P
+  pub few : size is-tree ≤ m
 
-pub found : (o : tree.Reading) {s : List ℕ} {P Q : Pool} {k : ℕ} → Answered o s P Q (Read k) → Found o k P Q
+pub found : (o : tree.Reading) {s : List ℕ} {P Q : Pool} {k : ℕ} → Answered o s P Q (Read k) → Found o (length s) k P Q
 found (tree.tree t) {k = k} a =
     let e : Read k ≡ Read (size t) = a .read .answer in
-    record { is-tree = t; is = refl; count = cc; stored = a .read .stored }
+    record { is-tree = t; is = refl; count = cc; stored = a .read .stored; few = a .read .fits }
 found tree.none {k = k} a =
     let e : Read k ≡ NoReading = a .read in
     let z : _≡_ {A = ℕ} 0 1 = cc in
     absurd (omega arith)
 
-pub held : {o : tree.Reading} {k : ℕ} {P Q : Pool} → Found o k P Q → P ≡ blank → Parses (made o) Q (record { outcome = outcome.Loaded; nodes = k })
-unfolding made
-held {o} {k} {P} {Q} f b =
-    let e : made o ≡ rule (f .is-tree) = rw (f .is) in
-    parses e (record { outcome = refl; nodes = f .count; stored = f .stored ∙ ap (store (f .is-tree) 0) b })
+-- it can be packed, and what is packed is the tree that was found
+module _ {o : tree.Reading} {m k : ℕ} {P Q : Pool} (f : Found o m k P Q) (b : P ≡ blank) (h : m ≤ 512) where
+  few : size (f .is-tree) ≤ 512
+  few = omega (arith, f .few)
+
+  alone : Q ≡ store (f .is-tree) 0 blank
+  alone = f .stored ∙ ap (store (f .is-tree) 0) b
+
+  pub some-nodes : 1 ≤ k
+  some-nodes = omega (arith, f .count, size-pos (f .is-tree))
+
+  pub can-pack : Plain Q (k - 1)
+  can-pack = rw (alone, f .count) (stored-plain (f .is-tree) few)
+
+  tree-in : treeOf Q (k - 1) ≡ f .is-tree
+  tree-in = rw (alone, f .count) (stored-tree (f .is-tree) few)
+
+  pub has-room : packedSize (treeOf Q (k - 1)) ≤ 512
+  has-room = rw tree-in (omega (arith, no-more (f .is-tree), few))
+
+  pub held : {R : Pool} {n : ℕ} → R ≡ packed (treeOf Q (k - 1)) → n ≡ packedSize (treeOf Q (k - 1))
+      → Parses (made o) R (record { outcome = outcome.Loaded; nodes = n })
+  unfolding made
+  held e d =
+      let i : made o ≡ rule (f .is-tree) = rw (f .is) in
+      parses i (record { outcome = refl; nodes = d ∙ ap packedSize tree-in; stored = e ∙ ap packed tree-in })
 
 not-false : (b : Bool) → not b ≡ true → b ≡ false
 not-false true e = sym e

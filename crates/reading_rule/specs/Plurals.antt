@@ -15,7 +15,7 @@ use Rattle.refusal.specs.declared.Outcome.the-variants as outcome
 use Rattle.rules.specs.Tree as tree
 use Rattle.rules.specs.Tree.{Tree, defaultTree}
 use Rattle.rules.specs.Pool.{Pool}
-use Rattle.rules.specs.Store.{size, store, blank}
+use Rattle.rules.specs.Pack.{packedSize, packed}
 use Rattle.reading_grammar.specs.Reading.{standard}
 use Rattle.reading_shipped.specs.Shipped.{shipped}
 use Rattle.reading_rule.specs.declared.Reading.{Reading}
@@ -59,8 +59,8 @@ abbrev pub outcomeOf : Parse → Outcome
 outcomeOf (rule t) = outcome.Loaded
 outcomeOf (norule e) = outcome.Refused e
 
--- the outcome, and the tree alone in the arrays, which at exit are Q
+-- the outcome, and the tree packed and alone in the arrays, which at exit are Q
 pub record Parses (p : Parse) (Q : Pool) (r : Parsed) : Type 0 where
   pub outcome : r .outcome ≡ outcomeOf p
-  pub nodes : r .nodes ≡ size (treeIn p)
-  pub stored : Q ≡ store (treeIn p) 0 blank
+  pub nodes : r .nodes ≡ packedSize (treeIn p)
+  pub stored : Q ≡ packed (treeIn p)

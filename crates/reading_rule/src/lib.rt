@@ -1,5 +1,5 @@
 // A plural rule from its text, in the reading that the caller chooses, with the refusals that are common to both. A port of plurals.rs,
-// `Ast::parse`, as its callers use it; the tree's nodes go into arrays that the caller lends.
+// `Ast::parse`, as its callers use it; the packed nodes go into arrays that the caller lends.
 use refusal::Error;
 use refusal::Outcome;
 ghost use mathlib.Core.Path.{_≡_};
@@ -26,7 +26,7 @@ pub struct Parsed {
 pub fn refuse(
     e: Error,
     codes: &mut [u8; 512],
-    places: &mut [u16; 1536],
+    places: &mut [u16; 1024],
     values: &mut [u64; 512],
 ) -> Parsed
     ensures { λ r. ⌜ Parses (norule e) (pool (now (codes .exit)) (now (places .exit)) (now (values .exit))) r ⌝ }
@@ -57,7 +57,7 @@ fn read(
     s: &[u8],
     reading: Reading,
     codes: &mut [u8; 512],
-    places: &mut [u16; 1536],
+    places: &mut [u16; 1024],
     values: &mut [u64; 512],
 ) -> rules::Nodes
     requires { ⌜ length (now s) ≤ 512 ⌝ }
@@ -71,24 +71,25 @@ fn read(
     }
 }
 
-// The rule of a text that passed the tests.
+// The rule of a text that passed the tests: its reader leaves a node for each n, integer and operator, and they are packed.
 fn rule_of(
     s: &[u8],
     reading: Reading,
     codes: &mut [u8; 512],
-    places: &mut [u16; 1536],
+    places: &mut [u16; 1024],
     values: &mut [u64; 512],
 ) -> Parsed
     requires { ⌜ length (now s) ≤ 512 ⌝ }
     ensures { λ r. ⌜ Parses (made (readAs reading (now (s .entry)))) (pool (now (codes .exit)) (now (places .exit)) (now (values .exit))) r ⌝ }
 {
-    *codes = [0u8; 512];
-    *places = [0u16; 1536];
-    *values = [0u64; 512];
-    let read = read(s, reading, codes, places, values);
-    let rules::Nodes::Read(nodes) = read else {
+    let mut heads = [0u8; 512];
+    let mut fields = [0u16; 1024];
+    let mut ints = [0u64; 512];
+    let read = read(s, reading, &mut heads, &mut fields, &mut ints);
+    let rules::Nodes::Read(count) = read else {
         return refuse(Error::PluralParsing, codes, places, values); // no reading
     };
+    let nodes = rules_pack::pack(&heads, &fields, &ints, count - 1, codes, places, values);
     Parsed {
         outcome: Outcome::Loaded,
         nodes,
@@ -100,7 +101,7 @@ pub fn parse(
     text: &[u8],
     reading: Reading,
     codes: &mut [u8; 512],
-    places: &mut [u16; 1536],
+    places: &mut [u16; 1024],
     values: &mut [u64; 512],
 ) -> Parsed
     ensures { λ r. ⌜ Parses (parsed reading (now (text .entry))) (pool (now (codes .exit)) (now (places .exit)) (now (values .exit))) r ⌝ }

@@ -10,7 +10,8 @@ use lib.Dec.{eqb}
 use borrow.Author.Tests.{eq-eqb, ne-eqb, lt-ltb, le-ltb}
 use Rattle.rules.specs.Tree.{var, Op, cmp, and, or, rem, eq, ne, ge, le, gt, lt, Reading, tree, none}
 use Rattle.rules.specs.Pool.{Pool}
-use Rattle.rules.specs.Store.{opCode}
+use Rattle.rules.specs.Store.{nodeCode}
+use Rattle.rules.proofs.Operators.{code-in}
 use Rattle.rules.specs.declared.Nodes.{Nodes}
 use Rattle.text_trim.specs.Trim.{trim, six}
 use Rattle.text_digits.specs.declared.Number.{Number}
@@ -139,20 +140,11 @@ module _ (s : List ℕ) {k : ℕ} {P Q : Pool} {r : Nodes} where
   middle-gives a e w = wider refl (simp length-take (omega arith)) w
 
 -- a row: what its code says of its kind
-no-such-code : (op : Op) → opCode op ≡ 3 → ⊥
-unfolding opCode
-no-such-code (cmp eq) e = omega arith
-no-such-code (cmp ne) e = omega arith
-no-such-code (cmp ge) e = omega arith
-no-such-code (cmp le) e = omega arith
-no-such-code (cmp gt) e = omega arith
-no-such-code (cmp lt) e = omega arith
-no-such-code and e = omega arith
-no-such-code or e = omega arith
-no-such-code rem e = omega arith
+no-such-code : (op : Op) → nodeCode op ≡ 112 → ⊥
+no-such-code op e = omega (arith, code-in op)
 
 module _ (x : Row) (s : List ℕ) (i code : ℕ) (place : i ≡ indexOf (x .pattern) s) (coded : code ≡ codeOf (x .kind)) where
-  pub cut-ternary : code ≡ 3 → cutAt shipped x s ≡ choose shipped i (indexOf colon s) s
+  pub cut-ternary : code ≡ 112 → cutAt shipped x s ≡ choose shipped i (indexOf colon s) s
   cut-ternary h = rw (← place) (go (x .kind) coded)
     where
       go : (d : Kind) → code ≡ codeOf d → cut shipped d i (length (x .pattern)) s ≡ choose shipped i (indexOf colon s) s
@@ -163,9 +155,9 @@ module _ (x : Row) (s : List ℕ) (i code : ℕ) (place : i ≡ indexOf (x .patt
   pub record Binary : Type 0 where
     pub op : Op
     pub is : (w : ℕ) → w ≡ length (x .pattern) → cutAt shipped x s ≡ two op (shipped (take i s)) (shipped (drop (i + w) s))
-    pub code-is : code ≡ opCode op
+    pub code-is : code ≡ nodeCode op
 
-  pub cut-binary : (code ≡ 3 → ⊥) → Binary
+  pub cut-binary : (code ≡ 112 → ⊥) → Binary
   cut-binary h = go (x .kind) refl coded
     where
       go : (d : Kind) → x .kind ≡ d → code ≡ codeOf d → Binary

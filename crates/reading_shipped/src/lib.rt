@@ -16,7 +16,7 @@ ghost use Rattle.reading_shipped.specs.Promise.{Gives, Cuts};
 fn parse_n(
     s: &[u8],
     codes: &mut [u8; 512],
-    places: &mut [u16; 1536],
+    places: &mut [u16; 1024],
     values: &mut [u64; 512],
     k: usize,
 ) -> rules::Nodes
@@ -31,7 +31,7 @@ fn parse_n(
     if s[0] != b'n' {
         return rules::Nodes::NoReading;
     }
-    rules::put(codes, places, values, k, 0, 0, 0, 0, 0);
+    rules::put(codes, places, values, k, rules::node::N, 0, 0, 0);
     rules::Nodes::Read(k + 1)
 }
 
@@ -39,7 +39,7 @@ fn parse_n(
 fn parse_int(
     s: &[u8],
     codes: &mut [u8; 512],
-    places: &mut [u16; 1536],
+    places: &mut [u16; 1024],
     values: &mut [u64; 512],
     k: usize,
 ) -> rules::Nodes
@@ -58,7 +58,7 @@ fn parse_int(
             k,
         );
     };
-    rules::put(codes, places, values, k, 1, 0, 0, 0, v);
+    rules::put(codes, places, values, k, rules::node::INTEGER, 0, 0, v);
     rules::Nodes::Read(k + 1)
 }
 
@@ -73,33 +73,22 @@ fn before(x: usize) -> u16
     (x - 1) as u16
 }
 
-// Puts a node at place k over the operands that end before x, y and z.
+// Puts a node at place k; its operands end before x, y and k.
 fn node(
     codes: &mut [u8; 512],
-    places: &mut [u16; 1536],
+    places: &mut [u16; 1024],
     values: &mut [u64; 512],
     k: usize,
     code: u8,
     x: usize,
     y: usize,
-    z: usize,
 ) -> rules::Nodes
-    requires { ⌜ (k < 512) × (x ≤ 512) × (y ≤ 512) × (z ≤ 512) ⌝ }
+    requires { ⌜ (k < 512) × (x ≤ 512) × (y ≤ 512) ⌝ }
     ensures { λ r. ⌜ r ≡ Nodes.Read (k + 1) ⌝ }
     ensures { λ _. ⌜ pool (now (codes .exit)) (now (places .exit)) (now (values .exit)) ≡
-        push (pool (now (codes .entry)) (now (places .entry)) (now (values .entry))) k code (x - 1) (y - 1) (z - 1) 0 ⌝ }
+        push (pool (now (codes .entry)) (now (places .entry)) (now (values .entry))) k code (x - 1) (y - 1) 0 ⌝ }
 {
-    rules::put(
-        codes,
-        places,
-        values,
-        k,
-        code,
-        before(x),
-        before(y),
-        before(z),
-        0,
-    );
+    rules::put(codes, places, values, k, code, before(x), before(y), 0);
     rules::Nodes::Read(k + 1)
 }
 
@@ -107,7 +96,7 @@ fn node(
 fn parse_not(
     s: &[u8],
     codes: &mut [u8; 512],
-    places: &mut [u16; 1536],
+    places: &mut [u16; 1024],
     values: &mut [u64; 512],
     k: usize,
 ) -> rules::Nodes
@@ -139,7 +128,7 @@ fn parse_not(
     let rules::Nodes::Read(m) = under else {
         return rules::Nodes::NoReading;
     };
-    node(codes, places, values, m, 2, m, 0, 0)
+    node(codes, places, values, m, rules::node::NOT, 0, 0)
 }
 
 // A text whose first ? stands at i: its three operands, and the node over them.
@@ -147,7 +136,7 @@ fn parse_ternary(
     s: &[u8],
     i: usize,
     codes: &mut [u8; 512],
-    places: &mut [u16; 1536],
+    places: &mut [u16; 1024],
     values: &mut [u64; 512],
     k: usize,
 ) -> rules::Nodes
@@ -175,7 +164,7 @@ fn parse_ternary(
     let rules::Nodes::Read(p) = third else {
         return rules::Nodes::NoReading;
     };
-    node(codes, places, values, p, 3, m, e, p)
+    node(codes, places, values, p, rules::node::TERNARY, m, e)
 }
 
 // A text in which the pattern of the row stands: the operands left and right of it, and the node over them.
@@ -183,7 +172,7 @@ fn parse_row(
     s: &[u8],
     row: usize,
     codes: &mut [u8; 512],
-    places: &mut [u16; 1536],
+    places: &mut [u16; 1024],
     values: &mut [u64; 512],
     k: usize,
 ) -> rules::Nodes
@@ -194,7 +183,7 @@ fn parse_row(
 {
     let i = levels::place_of(s, row);
     let code = levels::code_of(row);
-    if code == 3 {
+    if code == rules::node::TERNARY {
         return parse_ternary(s, i, codes, places, values, k);
     }
     let left = parse(&s[..i], codes, places, values, k);
@@ -206,14 +195,14 @@ fn parse_row(
     let rules::Nodes::Read(e) = right else {
         return rules::Nodes::NoReading;
     };
-    node(codes, places, values, e, code, m, e, 0)
+    node(codes, places, values, e, code, m, 0)
 }
 
 // `parse_and`, `parse_or` and the others down to `parse_mod`, by the table.
 fn parse_level(
     s: &[u8],
     codes: &mut [u8; 512],
-    places: &mut [u16; 1536],
+    places: &mut [u16; 1024],
     values: &mut [u64; 512],
     k: usize,
 ) -> rules::Nodes
@@ -240,7 +229,7 @@ fn parse_level(
 fn parse_parens(
     s: &[u8],
     codes: &mut [u8; 512],
-    places: &mut [u16; 1536],
+    places: &mut [u16; 1024],
     values: &mut [u64; 512],
     k: usize,
 ) -> rules::Nodes
@@ -285,7 +274,7 @@ fn parse_parens(
 fn parse(
     s: &[u8],
     codes: &mut [u8; 512],
-    places: &mut [u16; 1536],
+    places: &mut [u16; 1024],
     values: &mut [u64; 512],
     k: usize,
 ) -> rules::Nodes
@@ -307,7 +296,7 @@ fn parse(
 pub fn shipped(
     s: &[u8],
     codes: &mut [u8; 512],
-    places: &mut [u16; 1536],
+    places: &mut [u16; 1024],
     values: &mut [u64; 512],
 ) -> rules::Nodes
     requires { ⌜ length (now s) ≤ 512 ⌝ }

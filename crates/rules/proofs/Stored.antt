@@ -11,7 +11,7 @@ use Rattle.rules.specs.Operator.{opCode}
 use Rattle.rules.specs.Pool.{Pool, pool, code, field, value, build, below, node, treeOf}
 use Rattle.rules.specs.Pool as at
 use Rattle.rules.specs.Store.{push, zeros, blank}
-use Rattle.rules.specs.Pack.{Packed, leaf, one, two, three, unpack, pack, nodes, keep, packed}
+use Rattle.rules.specs.Pack.{Packed, leaf, one, two, three, unpack, pack, nodes, keep, packedSize, packed}
 use Rattle.rules.proofs.Trees.{below-in, node-same, tree-is, build-leaf, build-one, build-two, build-three}
 use Rattle.rules.proofs.Packs.{Fits}
 
@@ -208,3 +208,7 @@ kept-tree x f h =
 pub default-node : {P Q : Pool} → Q ≡ push P 0 17 0 0 1 → P ≡ blank → Q ≡ packed defaultTree
 unfolding packed keep pack opCode
 default-node e d = e ∙ ap (λ (R : Pool). push R 0 17 0 0 1) d
+
+pub packed-pos : (t : Tree) → 0 < packedSize t
+unfolding packedSize
+packed-pos t = nodes-pos (pack t)

@@ -21,7 +21,7 @@ use Rattle.rules.specs.Store.{push, blank}
 use Rattle.rules.specs.Pack.{Packed, leaf, one, two, three, numberOf, smallBy, isCount, isRem, restBy, leftOf, packBin, packCond, pack, nodes, keep, packedSize, packed}
 use Rattle.rules.proofs.Operators.{never, code-is}
 use Rattle.rules.proofs.Trees.{before-in, first-in, second-in, op-high, down, tree-leaf, tree-one, tree-two, tree-three, two-op}
-use Rattle.rules.proofs.Stored.{nodes-pos, blank-is}
+use Rattle.rules.proofs.Stored.{packed-pos, blank-is}
 use Rattle.rules_pack.specs.Private.{Packs, numberAt}
 
 -- a reader's code that is neither n nor an integer has an operand, one that is not ! has two, and one that is not ?: is an operator's
@@ -274,12 +274,8 @@ pub size-three : {t s u w : Tree} → IsThree t s u w → packedSize t ≡ packe
 unfolding packedSize nodes
 size-three e = rw (e .is)
 
-pub some-node : (t : Tree) → 0 < packedSize t
-unfolding packedSize
-some-node t = nodes-pos (pack t)
-
 pub past : {t : Tree} {k r : ℕ} {P Q : Pool} → Packs t k P Q r → 0 < r
-past {t} a = omega (arith, a .end, some-node t)
+past {t} a = omega (arith, a .end, packed-pos t)
 
 -- and that it is stored
 pub done-leaf : {t : Tree} {k c m v r : ℕ} {P Q : Pool} → IsLeaf t c m v → Q ≡ push P k c m 0 v → r ≡ k + 1 → Packs t k P Q r

@@ -261,7 +261,7 @@ fn told_form(r: Resolved) -> usize {
 fn forms_agree<'a>(
     told: &'a [u8],
     codes: &'a [u8; 512],
-    places: &'a [u16; 1536],
+    places: &'a [u16; 1024],
     values: &'a [u64; 512],
     nodes: usize,
 ) -> bool {
@@ -283,7 +283,7 @@ fn rule_agrees(told: &[u8]) -> bool {
     let len = two(from(told, 4));
     let texts = from(told, 6);
     let mut codes = [0u8; 512];
-    let mut places = [0u16; 1536];
+    let mut places = [0u16; 1024];
     let mut values = [0u64; 512];
     let parsed = reading_rule::parse(
         first(texts, len),

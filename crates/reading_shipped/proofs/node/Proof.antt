@@ -10,21 +10,16 @@ before-requires c κs = search needs
 before-requires-2 : tie.Need-before-requires-2
 before-requires-2 c κs = search needs
 
-before-requires-3 : tie.Need-before-requires-3
-before-requires-3 c κs = search needs
-
 put-requires : tie.Need-put-requires
 put-requires c κs = search needs
 
-add-t16 : tie.Need-add-t16
-add-t16 c = search needs
+add-t14 : tie.Need-add-t14
+add-t14 c = search needs
 
 returns : tie.Need-returns
-returns c =
-    let at-before2 = c .before .before .before .before2 in
-    (refl, c .put .ensures ∙ rw (at-before2 .ensures, c .before .before .before3 .ensures, c .before .before4 .ensures))
+returns c = (refl, c .put .ensures ∙ rw (c .before .before .before2 .ensures, c .before .before3 .ensures))
 
 pub node-spec : {M : Type 1} → statement M
 node-spec =
     tie.close
-    (tie.spec before-requires before-requires-2 before-requires-3 put-requires add-t16 returns)
+    (tie.spec before-requires before-requires-2 put-requires add-t14 returns)

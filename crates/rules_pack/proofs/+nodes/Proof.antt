@@ -5,7 +5,8 @@ use native.Mathlib.Omega.{arith}
 use denote.Ref.{now}
 use borrow.Author.Needs.{needs}
 use Rattle.rules.specs.Pool.{Pool, pool, code, treeOf}
-use Rattle.rules_pack.proofs.Laws.{last-in, left-in, mid-in, binary, lower, inside, high, IsLeaf, IsOne, IsTwo, IsThree, is-var, is-int, is-nay, is-three, is-chosen, is-picked, is-two, is-op, is-rest, is-one, size-leaf, size-one, size-two, size-three, some-node, past, cond-room, done-leaf, done-one, done-two, done-three, call}
+use Rattle.rules.proofs.Stored.{packed-pos}
+use Rattle.rules_pack.proofs.Laws.{last-in, left-in, mid-in, binary, lower, inside, high, IsLeaf, IsOne, IsTwo, IsThree, is-var, is-int, is-nay, is-three, is-chosen, is-picked, is-two, is-op, is-rest, is-one, size-leaf, size-one, size-two, size-three, past, cond-room, done-leaf, done-one, done-two, done-three, call}
 use Prim.Native.Nat.{ℕ, _+_, _-_, _<_, _%_}
 use borrow.Fn.Kinds.{In}
 use borrow.Fn.PlainCycle.{Measures, is, falls, and}
@@ -80,7 +81,7 @@ nodes-element-copy-out-put : (t : ℕ) → nodes-lts.Need-element-copy-out-put (
 nodes-element-copy-out-put t c = let s : St t = c .before .before .before .before .before .before in high (s .pre .1 .0)
 
 nodes-put-requires-2 : (t : ℕ) → nodes-lts.Need-put-requires-2 (R-nodes t) (nodes-at t) nodes.Post
-nodes-put-requires-2 t c κs = let s : St t = c .before .before .before .before .before .before .before in omega (arith, s .pre .1 .1, some-node (treeOf (P s) (s .args .at)))
+nodes-put-requires-2 t c κs = let s : St t = c .before .before .before .before .before .before .before in omega (arith, s .pre .1 .1, packed-pos (treeOf (P s) (s .args .at)))
 
 nodes-add-result-2 : (t : ℕ) → nodes-lts.Need-add-result-2 (R-nodes t) (nodes-at t) nodes.Post
 nodes-add-result-2 t c = let s : St t = c .before .before .before .before .before .before .before .before in omega (arith, s .pre .1 .1)
