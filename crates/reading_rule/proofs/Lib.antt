@@ -2,4 +2,5 @@ mod Steps
 pub mod Nodes
 pub mod Joined
 pub mod Cases
+mod Arithmetic
 pub mod Unique
