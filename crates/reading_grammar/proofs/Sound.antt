@@ -6,7 +6,7 @@ use mathlib.Core.List.{List, [], _∷_, _++_, append-assoc, append-nil}
 use native.Mathlib.Omega.{arith}
 use lib.Dec.{ltb, eqb}
 use borrow.Author.Tests.{eqb-true, ltb-true}
-use Rattle.rules.specs.Tree.{Tree, bin, cond, Op, cmp, and, or, rem, eq, ne, ge, le, gt, lt, tree}
+use Rattle.rules.specs.Tree.{Tree, bin, cond, Op, cmp, and, or, rem, eq, ne, ge, le, gt, lt, tree, calc, div, plus, minus, times}
 use Rattle.reading_grammar.specs.Grammar.{Token, sign, number, mark, ask, colon, closing, rank, loosest, full, Derives, variable, integer, bracket, negation, tighter, binary, conditional}
 use Rattle.reading_grammar.specs.Reading.{Outcome, got, bad, andThen, past, level, more, prefix, Level, whole, reading, μ}
 use Rattle.reading_grammar.proofs.Choice.{both}
@@ -47,6 +47,10 @@ low (cmp lt) = omega arith
 low and = omega arith
 low or = omega arith
 low rem = omega arith
+low div = omega arith
+low (calc plus) = omega arith
+low (calc minus) = omega arith
+low (calc times) = omega arith
 
 at-zero : {l : ℕ} {s : List Token} {t : Tree} (b c : ℕ) → eqb b c ≡ true → Derives l (mark c ∷ s) t → Derives l (mark b ∷ s) t
 at-zero b c e d = rw (eqb-true b c e) d

@@ -1,11 +1,12 @@
 -- C's grammar of a plural rule, over tokens: which lists of tokens are a text of which level, and what tree each has.
 -- GNU gettext manual 11.2.6 (an expression in C's syntax); document 01, "Two readings of a rule", Standard: ?: groups right and has the
--- lowest rank, its middle is a whole rule; then ||, &&, == and !=, the four orderings, %, !; the binary operators group left.
+-- lowest rank, its middle is a whole rule; then ||, &&, == and !=, the four orderings, + and -, then * / %, then !; the binary operators group
+-- left (document 02, b, for + - * /).
 use Prim.Native.Nat.{ℕ, suc, _<_, _^_}
 use Prim.Native.Char.{code}
 use mathlib.Core.Path.{_≡_}
 use mathlib.Core.List.{List, [], _∷_, _++_}
-use Rattle.rules.specs.Tree.{Tree, var, int, nay, bin, cond, Op, cmp, and, or, rem, Cmp, eq, ne, ge, le, gt, lt}
+use Rattle.rules.specs.Tree.{Tree, var, int, nay, bin, cond, Op, cmp, calc, and, or, rem, div, Cmp, eq, ne, ge, le, gt, lt, Calc, plus, minus, times}
 
 -- a binary operator, an integer, or any other byte as it stands
 pub data Token : Type 0 where
@@ -33,22 +34,29 @@ closing = mark (code ")")
 
 -- the table of ranks: 1 binds tightest
 abbrev pub rankCmp : Cmp → ℕ
-rankCmp eq = 3
-rankCmp ne = 3
-rankCmp ge = 2
-rankCmp le = 2
-rankCmp gt = 2
-rankCmp lt = 2
+rankCmp eq = 4
+rankCmp ne = 4
+rankCmp ge = 3
+rankCmp le = 3
+rankCmp gt = 3
+rankCmp lt = 3
+
+abbrev pub rankCalc : Calc → ℕ
+rankCalc times = 1
+rankCalc plus = 2
+rankCalc minus = 2
 
 abbrev pub rank : Op → ℕ
 rank rem = 1
+rank div = 1
+rank (calc c) = rankCalc c
 rank (cmp c) = rankCmp c
-rank and = 4
-rank or = 5
+rank and = 5
+rank or = 6
 
 -- the loosest binary rank; a whole rule is one level looser, where ?: stands
 abbrev pub loosest : ℕ
-loosest = 5
+loosest = 6
 
 abbrev pub full : ℕ
 full = suc loosest

@@ -6,7 +6,7 @@ use mathlib.Core.Bool.{Bool, true, false, _&&_, _||_}
 use mathlib.Core.List.{List, [], _∷_}
 use mathlib.Core.Option.{Option, none, some}
 use lib.Dec.{leb, eqb}
-use Rattle.rules.specs.Tree.{Op, cmp, and, or, rem, eq, ne, ge, le, gt, lt}
+use Rattle.rules.specs.Tree.{Op, cmp, calc, and, or, rem, div, eq, ne, ge, le, gt, lt, plus, minus, times}
 use Rattle.reading_grammar.specs.Grammar.{Token, sign, number, mark}
 
 abbrev pub twos : List (ℕ × ℕ × Op)
@@ -14,7 +14,7 @@ twos = (code "=", code "=", cmp eq) ∷ (code "!", code "=", cmp ne) ∷ (code "
     ∷ (code "&", code "&", and) ∷ (code "|", code "|", or) ∷ []
 
 abbrev pub ones : List (ℕ × Op)
-ones = (code "%", rem) ∷ (code "<", cmp lt) ∷ (code ">", cmp gt) ∷ []
+ones = (code "%", rem) ∷ (code "/", div) ∷ (code "*", calc times) ∷ (code "+", calc plus) ∷ (code "-", calc minus) ∷ (code "<", cmp lt) ∷ (code ">", cmp gt) ∷ []
 
 abbrev pub findTwo : List (ℕ × ℕ × Op) → ℕ → ℕ → Option Op
 findTwo [] b c = none

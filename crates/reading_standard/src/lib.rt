@@ -18,10 +18,10 @@ ghost use Rattle.rules.specs.Reads.{Answered};
 ghost use Rattle.reading_grammar.specs.Reading.{standard};
 
 // The loosest rank; ?: stands after texts of this level.
-const LOOSEST: u8 = 5;
+const LOOSEST: u8 = 6;
 
 // The level of a whole rule.
-const FULL: u8 = 6;
+const FULL: u8 = 7;
 
 // The next free place and the position after what was read, or no reading.
 enum Part {

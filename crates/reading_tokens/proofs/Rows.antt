@@ -10,7 +10,7 @@ use native.Mathlib.Numerals.{add-one}
 use lib.ListN.{length, drop, getD, drop-of-length-le}
 use lib.Dec.{eqb, leb, ltb}
 use borrow.Author.Tests.{eq-eqb, ne-eqb, eqb-true, leb-true, ltb-true, not-true}
-use Rattle.rules.specs.Tree.{Op, cmp, and, or, rem, eq, ne, ge, le, gt, lt}
+use Rattle.rules.specs.Tree.{Op, cmp, and, or, rem, eq, ne, ge, le, gt, lt, calc, div, plus, minus, times}
 use Rattle.rules.specs.Operator.{opCode}
 use Rattle.rules.specs.Store.{nodeCode}
 use Rattle.reading_grammar.specs.Grammar.{sign, rank}
@@ -29,13 +29,13 @@ abbrev pub pairCodes : List ℕ
 pairCodes = 80 ∷ 81 ∷ 83 ∷ 82 ∷ 86 ∷ 87 ∷ []
 
 abbrev pub singles : List ℕ
-singles = 37 ∷ 60 ∷ 62 ∷ []
+singles = 37 ∷ 47 ∷ 42 ∷ 43 ∷ 45 ∷ 60 ∷ 62 ∷ []
 
 abbrev pub singleCodes : List ℕ
-singleCodes = 88 ∷ 85 ∷ 84 ∷ []
+singleCodes = 88 ∷ 89 ∷ 92 ∷ 90 ∷ 91 ∷ 85 ∷ 84 ∷ []
 
 abbrev pub ranks : List ℕ
-ranks = 3 ∷ 3 ∷ 2 ∷ 2 ∷ 2 ∷ 2 ∷ 4 ∷ 5 ∷ 1 ∷ []
+ranks = 4 ∷ 4 ∷ 3 ∷ 3 ∷ 3 ∷ 3 ∷ 5 ∷ 6 ∷ 1 ∷ 1 ∷ 2 ∷ 2 ∷ 1 ∷ []
 
 pub ranked : (op : Op) → getD ranks (opCode op) 0 ≡ rank op
 unfolding opCode
@@ -48,13 +48,17 @@ ranked (cmp lt) = refl
 ranked and = refl
 ranked or = refl
 ranked rem = refl
+ranked div = refl
+ranked (calc plus) = refl
+ranked (calc minus) = refl
+ranked (calc times) = refl
 
 -- the operators of the rows, whose nodes have those codes
 abbrev pairOps : List Op
 pairOps = cmp eq ∷ cmp ne ∷ cmp le ∷ cmp ge ∷ and ∷ or ∷ []
 
 abbrev singleOps : List Op
-singleOps = rem ∷ cmp lt ∷ cmp gt ∷ []
+singleOps = rem ∷ div ∷ calc times ∷ calc plus ∷ calc minus ∷ cmp lt ∷ cmp gt ∷ []
 
 coded : (ops : List Op) (xs : List ℕ) → every (λ i x. eqb (nodeCode (getD ops i rem)) x) xs ≡ true → (i : ℕ) → i < length xs
     → nodeCode (getD ops i rem) ≡ getD xs i 0

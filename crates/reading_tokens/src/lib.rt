@@ -37,16 +37,20 @@ const PAIR_CODE: [u8; 6] = [
 ];
 
 // The operators of one byte: byte, code.
-const SINGLE: [u8; 3] = [b'%', b'<', b'>'];
+const SINGLE: [u8; 7] = [b'%', b'/', b'*', b'+', b'-', b'<', b'>'];
 
-const SINGLE_CODE: [u8; 3] = [
+const SINGLE_CODE: [u8; 7] = [
     node::OP + node::MODULO,
+    node::OP + node::DIVIDE,
+    node::OP + node::TIMES,
+    node::OP + node::PLUS,
+    node::OP + node::MINUS,
     node::OP + node::SMALLER,
     node::OP + node::GREATER,
 ];
 
 // The rank of each operator, 1 the tightest.
-const RANK: [u8; 9] = [3, 3, 2, 2, 2, 2, 4, 5, 1];
+const RANK: [u8; 13] = [4, 4, 3, 3, 3, 3, 5, 6, 1, 1, 2, 2, 1];
 
 // The rank of an operator.
 pub fn rank_of(c: u8) -> u8
@@ -76,7 +80,7 @@ fn pair(b: u8, c: u8, i: usize) -> u8
 fn single(b: u8, i: usize) -> u8
     ensures { λ r. ⌜ r ≡ singleFrom i b ⌝ }
 {
-    if i >= 3 {
+    if i >= 7 {
         return 0;
     }
     if b != SINGLE[i] {

@@ -1,19 +1,19 @@
 -- A rated rule yields a value within its range at every count, and never a remainder by zero; so a rule that fits k yields a form
 -- below k. By induction on the tree, with one lemma for each kind of node.
-use Prim.Native.Nat.{ℕ, _-_, _%_, _^_, _<_, _≤_, min, max}
+use Prim.Native.Nat.{ℕ, _+_, _-_, _*_, _/_, _%_, _^_, _<_, _≤_, min, max}
 use mathlib.Core.Path.{_≡_, refl, subst₂}
 use mathlib.Core.Bool.{Bool, true, false, not}
 use native.Mathlib.Omega.{arith}
-use native.Mathlib.Nat.{mod-lt, mod-le}
-use lib.Dec.{eqb, ltb}
-use borrow.Author.Tests.{eqb-false, ne-eqb, ltb-true, le-ltb}
+use native.Mathlib.Nat.{mod-lt, mod-le, mod-eq-of-lt, mul-le-mul, mul-le-mul-left, div-mul-le-self, le-div-iff-mul-le}
+use lib.Dec.{eqb, leb, ltb}
+use borrow.Author.Tests.{eqb-false, ne-eqb, ltb-true, leb-true, le-ltb}
 use Rattle.rules.specs.declared.Value.{Value}
 use Rattle.rules.specs.declared.Value.the-variants.{Is, ZeroModulus}
 use Rattle.rules.specs.declared.Rating.{Rating}
 use Rattle.rules.specs.declared.Rating.the-variants.{Range, Unrated}
-use Rattle.rules.specs.Tree.{Tree, var, int, nay, bin, cond, Op, cmp, and, or, rem, ne}
-use Rattle.rules.specs.Value.{truth, truthV, pickV, compared, binary, negated, chosen, evalTree}
-use Rattle.rules.specs.Range.{pickR, opRange, binRange, condRange, notRange, rateTree, fitsRange}
+use Rattle.rules.specs.Tree.{Tree, var, int, nay, bin, cond, Op, cmp, calc, and, or, rem, div, ne, plus, minus, times}
+use Rattle.rules.specs.Value.{truth, truthV, pickV, compared, calculated, binary, negated, chosen, evalTree}
+use Rattle.rules.specs.Range.{pickR, fullRange, kept, opRange, binRange, condRange, notRange, rateTree, fitsRange}
 use Rattle.rules.proofs.Operators.{never}
 
 -- a value within a range
@@ -53,8 +53,44 @@ rem-in h l m x y false e p q r =
     let y0 : y ≡ 0 → ⊥ = omega arith in
     rw (ne-eqb _ _ y0) (omega (arith, mod-lt x {m = y} (omega arith), mod-le x y))
 
+-- a quotient of the least by the greatest is the least, and the other way round
+over-in : (k h l m x y : ℕ) → 0 < l → k ≤ x → x ≤ h → l ≤ y → y ≤ m → (k / m ≤ x / y) × (x / y ≤ h / l)
+over-in k h l m x y pos p q r s = (
+  le-div-iff-mul-le {k = y} (omega arith) .1 (omega (arith, mul-le-mul-left (k / m) s, div-mul-le-self k m)),
+  le-div-iff-mul-le {k = l} pos .1 (omega (arith, mul-le-mul-left (x / y) r, div-mul-le-self x y)),
+)
+
+div-in : (k h l m x y : ℕ) (b : Bool) → eqb l 0 ≡ b → k ≤ x → x ≤ h → l ≤ y → y ≤ m
+    → Within (pickR b Unrated (Range (k / m) (h / l))) (pickV (eqb y 0) ZeroModulus (Is (x / y)))
+div-in k h l m x y true e p q r s = tt
+div-in k h l m x y false e p q r s =
+    let z : l ≡ 0 → ⊥ = eqb-false l 0 e in
+    let y0 : y ≡ 0 → ⊥ = omega arith in
+    rw (ne-eqb _ _ y0) (over-in k h l m x y (omega arith) p q r s)
+
+-- a number modulo 2^64 is in the full range, and itself where it fits
+wrapped : (x : ℕ) → Within fullRange (Is (x % 2 ^ 64))
+wrapped x = let h = mod-lt x {m = 2 ^ 64} (omega arith) in omega arith
+
+kept-in : (l h x : ℕ) (b : Bool) → ltb h (2 ^ 64) ≡ b → l ≤ x → x ≤ h → Within (pickR b (Range l h) fullRange) (Is (x % 2 ^ 64))
+kept-in l h x true e p q =
+    let d = ltb-true h (2 ^ 64) e in
+    let z : x % 2 ^ 64 ≡ x = mod-eq-of-lt (omega arith) in
+    rw z (p, q)
+kept-in l h x false e p q = wrapped x
+
+-- where the subtrahend is not greater, the difference is that of the numbers
+minus-in : (k h l m x y : ℕ) (b : Bool) → leb m k ≡ b → k ≤ x → x ≤ h → l ≤ y → y ≤ m
+    → Within (pickR b (kept (k - m) (h - l)) fullRange) (Is ((2 ^ 64 + x - y) % 2 ^ 64))
+unfolding kept
+minus-in k h l m x y true e p q r s =
+    let d = leb-true m k e in
+    let z : (2 ^ 64 + x - y) % 2 ^ 64 ≡ (x - y) % 2 ^ 64 = omega arith in
+    rw z (kept-in (k - m) (h - l) (x - y) (ltb (h - l) (2 ^ 64)) refl (omega arith) (omega arith))
+minus-in k h l m x y false e p q r s = wrapped (2 ^ 64 + x - y)
+
 op-in : (op : Op) (k h l m : ℕ) (v w : Value) → Within (Range k h) v → Within (Range l m) w → Within (opRange op k h l m) (binary op v w)
-unfolding opRange binary
+unfolding opRange binary kept
 op-in op k h l m ZeroModulus w p q = absurd p
 op-in (cmp c) k h l m (Is x) (Is y) p q = truth-in (compared c x y)
 op-in (cmp c) k h l m (Is x) ZeroModulus p q = q
@@ -62,6 +98,13 @@ op-in and k h l m (Is x) w p q = pick-in (eqb x 0) (Range 0 1) (Is 0) (truthV w)
 op-in or k h l m (Is x) w p q = pick-in (eqb x 0) (Range 0 1) (truthV w) (Is 1) (truthV-in l m w q) (omega arith)
 op-in rem k h l m (Is x) (Is y) p q = rem-in h l m x y (eqb l 0) refl (p .1) (q .0) (q .1)
 op-in rem k h l m (Is x) ZeroModulus p q = absurd q
+op-in div k h l m (Is x) (Is y) p q = div-in k h l m x y (eqb l 0) refl (p .0) (p .1) (q .0) (q .1)
+op-in div k h l m (Is x) ZeroModulus p q = absurd q
+op-in (calc plus) k h l m (Is x) (Is y) p q = kept-in (k + l) (h + m) (x + y) (ltb (h + m) (2 ^ 64)) refl (omega (arith, p, q)) (omega (arith, p, q))
+op-in (calc minus) k h l m (Is x) (Is y) p q = minus-in k h l m x y (leb m k) refl (p .0) (p .1) (q .0) (q .1)
+op-in (calc times) k h l m (Is x) (Is y) p q =
+    kept-in (k * l) (h * m) (x * y) (ltb (h * m) (2 ^ 64)) refl (mul-le-mul (p .0) (q .0)) (mul-le-mul (p .1) (q .1))
+op-in (calc c) k h l m (Is x) ZeroModulus p q = absurd q
 
 bin-in : (op : Op) (r s : Rating) (v w : Value) → Within r v → Within s w → Within (binRange op r s) (binary op v w)
 unfolding binRange

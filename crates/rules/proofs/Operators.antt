@@ -6,7 +6,7 @@ use mathlib.Core.Option.{Option, none, some}
 use Prim.Native.Nat.{ℕ, zero, suc, _<_}
 use native.Mathlib.Omega.{arith}
 use lib.ListN.{length}
-use Rattle.rules.specs.Tree.{Op, cmp, and, or, rem, eq, ne, ge, le, gt, lt}
+use Rattle.rules.specs.Tree.{Op, cmp, calc, and, or, rem, div, eq, ne, ge, le, gt, lt, plus, minus, times}
 use Rattle.rules.specs.Operator.{operators, opAt, opOf, Named, opCode}
 
 pub never : {A : Type 0} → false ≡ true → A
@@ -37,6 +37,10 @@ op-code (cmp lt) = refl
 op-code and = refl
 op-code or = refl
 op-code rem = refl
+op-code div = refl
+op-code (calc plus) = refl
+op-code (calc minus) = refl
+op-code (calc times) = refl
 
 pub code-in : (op : Op) → opCode op < length operators
 unfolding opCode
@@ -49,6 +53,10 @@ code-in (cmp lt) = omega arith
 code-in and = omega arith
 code-in or = omega arith
 code-in rem = omega arith
+code-in div = omega arith
+code-in (calc plus) = omega arith
+code-in (calc minus) = omega arith
+code-in (calc times) = omega arith
 
 abbrev numberIn : Option Op → ℕ
 numberIn none = 0
@@ -72,17 +80,16 @@ code-is (suc (suc (suc (suc (suc zero))))) op e = sym (ap numberIn e)
 code-is (suc (suc (suc (suc (suc (suc zero)))))) op e = sym (ap numberIn e)
 code-is (suc (suc (suc (suc (suc (suc (suc zero))))))) op e = sym (ap numberIn e)
 code-is (suc (suc (suc (suc (suc (suc (suc (suc zero)))))))) op e = sym (ap numberIn e)
-code-is (suc (suc (suc (suc (suc (suc (suc (suc (suc i))))))))) op e = none-some e
+code-is (suc (suc (suc (suc (suc (suc (suc (suc (suc zero))))))))) op e = sym (ap numberIn e)
+code-is (suc (suc (suc (suc (suc (suc (suc (suc (suc (suc zero)))))))))) op e = sym (ap numberIn e)
+code-is (suc (suc (suc (suc (suc (suc (suc (suc (suc (suc (suc zero))))))))))) op e = sym (ap numberIn e)
+code-is (suc (suc (suc (suc (suc (suc (suc (suc (suc (suc (suc (suc zero)))))))))))) op e = sym (ap numberIn e)
+code-is (suc (suc (suc (suc (suc (suc (suc (suc (suc (suc (suc (suc (suc i))))))))))))) op e = none-some e
 
--- from the number of % on there is none but it
-pub is-rem : (i : ℕ) (op : Op) → opOf i ≡ some op → 7 < i → op ≡ rem
-unfolding opCode
-is-rem i (cmp eq) e h = let d = code-is i (cmp eq) e in absurd (omega arith)
-is-rem i (cmp ne) e h = let d = code-is i (cmp ne) e in absurd (omega arith)
-is-rem i (cmp ge) e h = let d = code-is i (cmp ge) e in absurd (omega arith)
-is-rem i (cmp le) e h = let d = code-is i (cmp le) e in absurd (omega arith)
-is-rem i (cmp gt) e h = let d = code-is i (cmp gt) e in absurd (omega arith)
-is-rem i (cmp lt) e h = let d = code-is i (cmp lt) e in absurd (omega arith)
-is-rem i and e h = let d = code-is i and e in absurd (omega arith)
-is-rem i or e h = let d = code-is i or e in absurd (omega arith)
-is-rem i rem e h = refl
+-- and is below the table's length
+pub op-low : (i : ℕ) (op : Op) → opOf i ≡ some op → i < length operators
+op-low i op e = let d = code-is i op e in let h = code-in op in omega arith
+
+-- the operator of a number that is known
+pub op-at : (i k : ℕ) {op q : Op} → opOf i ≡ some op → i ≡ k → opOf k ≡ some q → op ≡ q
+op-at i k e h d = same-op (sym e ∙ ap opOf h ∙ d)

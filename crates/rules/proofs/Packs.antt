@@ -5,7 +5,7 @@ use mathlib.Core.Option.{some}
 use Prim.Native.Nat.{ℕ, _+_, _-_, _<_, _≤_, _%_, _/_}
 use native.Mathlib.Omega.{arith}
 use lib.Dec.{ltb}
-use Rattle.rules.specs.Tree.{Tree, var, int, nay, bin, cond, Op, cmp, and, or, rem}
+use Rattle.rules.specs.Tree.{Tree, var, int, nay, bin, cond, Op, cmp, and, or, rem, div, calc}
 use Rattle.rules.specs.Operator.{opOf, opCode}
 use Rattle.rules.specs.declared.Number.{Number}
 use Rattle.rules.specs.declared.Number.the-variants as number
@@ -90,6 +90,8 @@ rest-is rem (cond s u w) t = tt
 rest-is (cmp k) s t = tt
 rest-is and s t = tt
 rest-is or s t = tt
+rest-is div s t = tt
+rest-is (calc c) s t = tt
 
 left-is : (t : Tree) → LeftIs t (leftOf t)
 unfolding leftOf

@@ -4,10 +4,10 @@ use Prim.Native.Nat.{ℕ, zero, suc}
 use mathlib.Core.Path.{_≡_}
 use mathlib.Core.List.{List, [], _∷_}
 use mathlib.Core.Option.{Option, none, some}
-use Rattle.rules.specs.Tree.{Op, cmp, and, or, rem, Cmp, eq, ne, ge, le, gt, lt}
+use Rattle.rules.specs.Tree.{Op, cmp, calc, and, or, rem, div, Cmp, eq, ne, ge, le, gt, lt, plus, minus, times}
 
 abbrev pub operators : List Op
-operators = cmp eq ∷ cmp ne ∷ cmp ge ∷ cmp le ∷ cmp gt ∷ cmp lt ∷ and ∷ or ∷ rem ∷ []
+operators = cmp eq ∷ cmp ne ∷ cmp ge ∷ cmp le ∷ cmp gt ∷ cmp lt ∷ and ∷ or ∷ rem ∷ div ∷ calc plus ∷ calc minus ∷ calc times ∷ []
 
 unfoldable pub opAt : List Op → ℕ → Option Op
 opAt [] i = none
@@ -34,3 +34,7 @@ opCode (cmp lt) = 5
 opCode and = 6
 opCode or = 7
 opCode rem = 8
+opCode div = 9
+opCode (calc plus) = 10
+opCode (calc minus) = 11
+opCode (calc times) = 12

@@ -3,7 +3,7 @@
 use Prim.Native.Nat.{ℕ, _+_, _-_}
 use mathlib.Core.Bool.{Bool, true, false, _&&_}
 use lib.Dec.{ltb}
-use Rattle.rules.specs.Tree.{Tree, var, int, nay, bin, cond, Op, cmp, and, or, rem}
+use Rattle.rules.specs.Tree.{Tree, var, int, nay, bin, cond, Op, cmp, and, or, rem, div, calc}
 use Rattle.rules.specs.Operator.{opCode}
 use Rattle.rules.specs.declared.Number.{Number}
 use Rattle.rules.specs.declared.Number.the-variants as number
@@ -55,6 +55,8 @@ isRem (cmp k) = false
 isRem and = false
 isRem or = false
 isRem rem = true
+isRem div = false
+isRem (calc c) = false
 
 abbrev pub restBy : Small → Left
 restBy (small.Is m) = left.Rest m

@@ -1,13 +1,17 @@
--- The tree of a plural rule: n, an integer, !, a binary operator, ?:. Document 01, "Two readings of a rule"; the operators are
--- those of the Rust's `Operator`, and the six comparisons are one constructor.
+-- The tree of a plural rule: n, an integer, !, a binary operator, ?:. SPEC 6; the operators are those of the Rust's `Operator` and C's
+-- + - * / (document 02, b). The six comparisons are one constructor, and so are the three that wrap.
 use Prim.Native.Nat.{ℕ}
 
 pub data Cmp : Type 0 where
   eq ne ge le gt lt : Cmp
 
+pub data Calc : Type 0 where
+  plus minus times : Calc
+
 pub data Op : Type 0 where
   cmp : Cmp → Op
-  and or rem : Op
+  calc : Calc → Op
+  and or rem div : Op
 
 pub data Tree : Type 0 where
   var : Tree

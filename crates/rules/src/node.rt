@@ -30,7 +30,7 @@ pub const CHOICE: u8 = 96;
 pub const TERNARY: u8 = 112;
 
 // How many codes of each group there are.
-pub const ROWS: [u8; 8] = [2, 9, 9, 2, 9, 9, 1, 1];
+pub const ROWS: [u8; 8] = [2, 13, 13, 2, 13, 13, 1, 1];
 
 // The numbers of the binary operators, with the names of the Rust's `Operator`. `operators` of specs/Operator.antt has them in this order.
 pub const EQUAL: u8 = 0;
@@ -50,3 +50,12 @@ pub const AND: u8 = 6;
 pub const OR: u8 = 7;
 
 pub const MODULO: u8 = 8;
+
+// These are C's, and no operators of the Rust's.
+pub const DIVIDE: u8 = 9;
+
+pub const PLUS: u8 = 10;
+
+pub const MINUS: u8 = 11;
+
+pub const TIMES: u8 = 12;

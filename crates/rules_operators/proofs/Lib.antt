@@ -1,3 +1,4 @@
-mod Operators
+mod Halves
+pub mod Operators
 pub mod Given
 pub mod Unique

@@ -1,17 +1,17 @@
 -- Laws of the binary operators by their numbers, as an evaluation asks for them.
 use mathlib.Core.Path.{_≡_, refl, sym, _∙_}
-use mathlib.Core.Bool.{true, false}
+use mathlib.Core.Bool.{Bool, true, false}
 use mathlib.Core.Option.{Option, none, some}
-use Prim.Native.Nat.{ℕ, _<_}
+use Prim.Native.Nat.{ℕ, _+_, _-_, _*_, _/_, _%_, _^_, _<_, _≤_}
 use native.Mathlib.Omega.{arith}
 use lib.Dec.{eqb}
-use borrow.Author.Tests.{not-true, not-false}
+use borrow.Author.Tests.{not-true, not-false, eqb-true, eqb-false}
 use Rattle.rules.specs.declared.Value.{Value}
 use Rattle.rules.specs.declared.Value.the-variants.{Is, ZeroModulus}
-use Rattle.rules.specs.Tree.{Op, cmp, and, or, rem, Cmp, eq, ne, ge, le, gt, lt}
-use Rattle.rules.specs.Value.{binary, truthV}
+use Rattle.rules.specs.Tree.{Op, cmp, calc, and, or, rem, div, Cmp, eq, ne, ge, le, gt, lt, Calc, plus, minus, times}
+use Rattle.rules.specs.Value.{calculated, binary, truthV}
 use Rattle.rules.specs.Operator.{opOf, opAt, opCode}
-use Rattle.rules.proofs.Operators.{never, code-is}
+use Rattle.rules.proofs.Operators.{never, code-is, op-low, op-at}
 use Rattle.rules_operators.specs.Operator.{settled, settledBy}
 
 pub same-cmp : {j k : Cmp} → some (cmp j) ≡ some (cmp k) → j ≡ k
@@ -38,6 +38,38 @@ low-cmp i (cmp k) e h = record { which = k; is = refl }
 low-cmp i and e h = let d = code-is i and e in absurd (omega arith)
 low-cmp i or e h = let d = code-is i or e in absurd (omega arith)
 low-cmp i rem e h = let d = code-is i rem e in absurd (omega arith)
+low-cmp i div e h = let d = code-is i div e in absurd (omega arith)
+low-cmp i (calc plus) e h = let d = code-is i (calc plus) e in absurd (omega arith)
+low-cmp i (calc minus) e h = let d = code-is i (calc minus) e in absurd (omega arith)
+low-cmp i (calc times) e h = let d = code-is i (calc times) e in absurd (omega arith)
+
+-- those from 10 on are sums, differences and products
+pub record IsCalc (op : Op) : Type 0 where
+  pub which : Calc
+  pub is : op ≡ calc which
+
+pub high-calc : (i : ℕ) (op : Op) → opOf i ≡ some op → 10 ≤ i → IsCalc op
+unfolding opCode
+high-calc i (calc c) e h = record { which = c; is = refl }
+high-calc i (cmp eq) e h = let d = code-is i (cmp eq) e in absurd (omega arith)
+high-calc i (cmp ne) e h = let d = code-is i (cmp ne) e in absurd (omega arith)
+high-calc i (cmp ge) e h = let d = code-is i (cmp ge) e in absurd (omega arith)
+high-calc i (cmp le) e h = let d = code-is i (cmp le) e in absurd (omega arith)
+high-calc i (cmp gt) e h = let d = code-is i (cmp gt) e in absurd (omega arith)
+high-calc i (cmp lt) e h = let d = code-is i (cmp lt) e in absurd (omega arith)
+high-calc i and e h = let d = code-is i and e in absurd (omega arith)
+high-calc i or e h = let d = code-is i or e in absurd (omega arith)
+high-calc i rem e h = let d = code-is i rem e in absurd (omega arith)
+high-calc i div e h = let d = code-is i div e in absurd (omega arith)
+
+pub same-calc : {j k : Calc} → some (calc j) ≡ some (calc k) → j ≡ k
+same-calc e = cc
+
+pub calc-rest : (i : ℕ) (k : Calc) → opOf i ≡ some (calc k) → (i ≡ 10 → ⊥) → (i ≡ 11 → ⊥) → k ≡ times
+unfolding opCode
+calc-rest i plus e h1 h2 = absurd (h1 (sym (code-is i (calc plus) e)))
+calc-rest i minus e h1 h2 = absurd (h2 (sym (code-is i (calc minus) e)))
+calc-rest i times e h1 h2 = refl
 
 -- those above have one operator each
 pub is-and : (i : ℕ) (op : Op) → opOf i ≡ some op → i ≡ 6 → op ≡ and
@@ -47,6 +79,27 @@ is-and i op e h = let d : opOf 6 ≡ some op = rw h at e in cc
 pub is-or : (i : ℕ) (op : Op) → opOf i ≡ some op → i ≡ 7 → op ≡ or
 unfolding opOf opAt
 is-or i op e h = let d : opOf 7 ≡ some op = rw h at e in cc
+
+pub is-div : (i : ℕ) (op : Op) → opOf i ≡ some op → 7 < i → i < 10 → (i ≡ 8 → ⊥) → op ≡ div
+unfolding opOf opAt
+is-div i op e h l n = op-at i 9 e (omega arith) refl
+
+pub is-rem : (i : ℕ) (op : Op) → opOf i ≡ some op → i ≡ 8 → op ≡ rem
+unfolding opOf opAt
+is-rem i op e h = op-at i 8 e h refl
+
+-- what a difference that wraps is
+pub differs : (x y r : ℕ) → (r + y) % 2 ^ 64 ≡ x → r < 2 ^ 64 → x < 2 ^ 64 → y < 2 ^ 64 → r ≡ (2 ^ 64 + x - y) % 2 ^ 64
+differs x y r e h k l = omega arith
+
+-- a zero divisor
+pub by-zero : (i : ℕ) (op : Op) (x : ℕ) → opOf i ≡ some op → 7 < i → i < 10 → binary op (Is x) (Is 0) ≡ ZeroModulus
+unfolding binary
+by-zero i op x e h l = go (eqb i 8) refl
+  where
+    go : (b : Bool) → eqb i 8 ≡ b → binary op (Is x) (Is 0) ≡ ZeroModulus
+    go true q = rw (is-rem i op e (eqb-true i 8 q))
+    go false q = rw (is-div i op e h l (eqb-false i 8 q))
 
 -- only && and || are settled by their left operand
 pub settled-rest : (i x : ℕ) → (i ≡ 6 → ⊥) → (i ≡ 7 → ⊥) → settledBy (opOf i) x ≡ false
@@ -59,6 +112,8 @@ settled-rest i x a o = go (opOf i) refl
     go (some and) e = absurd (a (sym (code-is i and e)))
     go (some or) e = absurd (o (sym (code-is i or e)))
     go (some rem) e = refl
+    go (some div) e = refl
+    go (some (calc c)) e = refl
 
 -- what the left operand settles, no right operand changes
 pub settled-any : (op : Op) (x : ℕ) (v : Value) → settled op x ≡ true → binary op (Is x) v ≡ binary op (Is x) (Is 0)
@@ -67,6 +122,8 @@ settled-any (cmp k) x v e = never e
 settled-any and x v e = rw e
 settled-any or x v e = rw (not-true (eqb x 0) e)
 settled-any rem x v e = never e
+settled-any div x v e = never e
+settled-any (calc c) x v e = never e
 
 -- what it does not settle fails where the right operand does
 pub unsettled : (op : Op) (x : ℕ) → settled op x ≡ false → binary op (Is x) ZeroModulus ≡ ZeroModulus
@@ -75,3 +132,5 @@ unsettled (cmp k) x e = refl
 unsettled and x e = rw e
 unsettled or x e = rw (not-false (eqb x 0) e)
 unsettled rem x e = refl
+unsettled div x e = refl
+unsettled (calc c) x e = refl

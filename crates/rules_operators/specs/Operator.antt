@@ -6,8 +6,8 @@ use mathlib.Core.Option.{Option, none, some}
 use lib.Dec.{eqb}
 use Rattle.rules.specs.declared.Value.{Value}
 use Rattle.rules.specs.declared.Value.the-variants.{Is, ZeroModulus}
-use Rattle.rules.specs.Tree.{Op, cmp, and, or, rem, Cmp}
-use Rattle.rules.specs.Value.{compared, binary}
+use Rattle.rules.specs.Tree.{Op, cmp, calc, and, or, rem, div, Cmp, Calc}
+use Rattle.rules.specs.Value.{compared, calculated, binary}
 use Rattle.rules.specs.Operator.{opOf}
 
 -- the left operand settles the operator
@@ -16,6 +16,8 @@ settled (cmp k) x = false
 settled and x = eqb x 0
 settled or x = not (eqb x 0)
 settled rem x = false
+settled div x = false
+settled (calc c) x = false
 
 abbrev pub settledBy : Option Op → ℕ → Bool
 settledBy none x = false
@@ -24,6 +26,10 @@ settledBy (some op) x = settled op x
 -- the comparison of number i, where it is one
 pub record Compares (i x y : ℕ) (r : Bool) : Type 0 where
   pub is : (k : Cmp) → opOf i ≡ some (cmp k) → r ≡ compared k x y
+
+-- the sum, difference or product of number i, where it is one
+pub record Calculates (i x y r : ℕ) : Type 0 where
+  pub is : (k : Calc) → opOf i ≡ some (calc k) → r ≡ calculated k x y
 
 -- a value as a number r and a flag, which was b and is c: a remainder by zero sets the flag, and the number counts where none was met
 abbrev pub Given : Value → Bool → Bool → ℕ → Type 0

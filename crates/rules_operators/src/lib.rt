@@ -1,9 +1,13 @@
 // A rule's operators on numbers. A port of plurals.rs: `resolve`, the arms of `Ast::Op`.
 use rules::node;
 ghost use mathlib.Core.Path.{_≡_};
+ghost use Prim.Native.Nat.{_*_, _%_, _^_};
 ghost use Rattle.rules.specs.Value.{truth};
 ghost use Rattle.rules.specs.Operator.{opOf, Named};
-ghost use Rattle.rules_operators.specs.Operator.{settledBy, Compares, Applies};
+ghost use Rattle.rules_operators.specs.Operator.{settledBy, Compares, Calculates, Applies};
+
+// 2^32: half of a number has so many values.
+const HALF: u64 = 0x1_0000_0000;
 
 // A truth as a number.
 pub fn truth(b: bool) -> u64
@@ -37,7 +41,26 @@ fn compares(op: u8, x: u64, y: u64) -> bool
     }
 }
 
-// A binary operator of the table on two numbers. A remainder by zero is told by the flag, and the number is 0 and of no use then.
+// A product modulo 2^64, by the halves of its factors. The product of the upper halves has no part in it.
+fn times(x: u64, y: u64) -> u64
+    ensures { λ r. ⌜ r ≡ (x * y) % 2 ^ 64 ⌝ }
+{
+    let upper = std::num::wrapping_add_u64((x / HALF) * (y % HALF), (x % HALF) * (y / HALF));
+    std::num::wrapping_add_u64((x % HALF) * (y % HALF), (upper % HALF) * HALF)
+}
+
+// A sum, a difference or a product.
+fn calculates(op: u8, x: u64, y: u64) -> u64
+    ensures { λ r. ⌜ Calculates op x y r ⌝ }
+{
+    match op {
+        node::PLUS => std::num::wrapping_add_u64(x, y),
+        node::MINUS => std::num::wrapping_sub_u64(x, y),
+        _ => times(x, y),
+    }
+}
+
+// A binary operator of the table on two numbers. A remainder or a quotient by zero is told by the flag, and the number is 0 and of no use then.
 pub fn apply(op: u8, x: u64, y: u64, zero: &mut bool) -> u64
     requires { ⌜ Named op ⌝ }
     ensures { λ r. ⌜ Applies op x y (now (zero .entry)) (now (zero .exit)) r ⌝ }
@@ -57,9 +80,15 @@ pub fn apply(op: u8, x: u64, y: u64, zero: &mut bool) -> u64
         }
         return 1;
     }
+    if node::PLUS <= op {
+        return calculates(op, x, y);
+    }
     if y == 0 {
         *zero = true;
         return 0;
     }
-    x % y
+    if op == node::MODULO {
+        return x % y;
+    }
+    x / y
 }

@@ -7,7 +7,7 @@ use native.Mathlib.Omega.{arith}
 use lib.ListN.{replicate}
 use lib.Dec.{eqb, leb, ltb}
 use borrow.Author.Tests.{eqb-true, eqb-false, eq-eqb, ne-eqb, lt-leb, ltb-true, ltb-false}
-use Rattle.rules.specs.Tree.{Tree, var, int, nay, bin, cond, Op, cmp, and, or, rem, eq, ne, ge, le, gt, lt}
+use Rattle.rules.specs.Tree.{Tree, var, int, nay, bin, cond, Op, cmp, and, or, rem, eq, ne, ge, le, gt, lt, calc, div, plus, minus, times}
 use Rattle.rules.specs.Operator.{opOf, opCode, Named}
 use Rattle.rules.specs.Pool.{Pool, pool, code, value, field, treeOf}
 use Rattle.rules.specs.Sound.{plain, Plain}
@@ -137,6 +137,10 @@ rem-by (cmp lt) = refl
 rem-by and = refl
 rem-by or = refl
 rem-by rem = refl
+rem-by div = refl
+rem-by (calc plus) = refl
+rem-by (calc minus) = refl
+rem-by (calc times) = refl
 
 -- the answers of `left_of`
 module _ {P : Pool} {p : ℕ} (s : Plain P p) where

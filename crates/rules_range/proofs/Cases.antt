@@ -11,8 +11,8 @@ use Rattle.rules.specs.declared.Rated.the-variants.{Range, Unrated}
 use Rattle.rules.specs.declared.Fit.{Fit}
 use Rattle.rules.specs.declared.Fit.the-variants as fit
 use Rattle.rules.specs.declared.Fit.the-variants.{Yes, No}
-use Rattle.rules.specs.Value.{binary, negated, chosen, truthV, evalTree}
-use Rattle.rules.specs.Range.{opRange, binRange, condRange, notRange, rateTree, fitsRange}
+use Rattle.rules.specs.Value.{calculated, binary, negated, chosen, truthV, evalTree}
+use Rattle.rules.specs.Range.{kept, opRange, binRange, condRange, notRange, rateTree, fitsRange}
 use Rattle.rules.specs.Operator.{opAt, opOf}
 use Rattle.rules.specs.Pool.{Pool, pool, treeAt, treeOf, operandsTo, operands, allBelow, used, member, distinct, shaped, isTree}
 use Rattle.rules.specs.Answer.{resolvedOf, ratedOf, fitOf}
@@ -71,8 +71,19 @@ rows =
     ∷ (integer-first 88, Unrated, (5, No), resolved.ZeroModulus, Form 0, Form 1)
     ∷ (choice, Range 0 3, (4, Yes), Form 0, Form 1, Form 2)
     ∷ (reached, Unrated, (2, No), resolved.ZeroModulus, resolved.ZeroModulus, resolved.ZeroModulus)
+    -- n / 2, n + 1, n - 1, n * 2; n % 9 / 2, n % 9 + 2, n % 9 - 2, n % 9 * 2
+    ∷ (alone 25 0 2, Range 0 0x7fffffffffffffff, (2, No), Form 0, Form 0, Form 1)
+    ∷ (alone 26 0 1, Range 0 0xffffffffffffffff, (2, No), Form 1, Form 2, Form 3)
+    ∷ (alone 27 0 1, Range 0 0xffffffffffffffff, (2, No), Form 0xffffffffffffffff, Form 0, Form 1)
+    ∷ (alone 28 0 2, Range 0 0xffffffffffffffff, (2, No), Form 0, Form 2, Form 4)
+    ∷ (alone 41 9 2, Range 0 4, (5, Yes), Form 0, Form 0, Form 1)
+    ∷ (alone 42 9 2, Range 2 10, (11, Yes), Form 2, Form 3, Form 4)
+    ∷ (alone 43 9 2, Range 0 0xffffffffffffffff, (2, No), Form 0xfffffffffffffffe, Form 0xffffffffffffffff, Form 0)
+    ∷ (alone 44 9 2, Range 0 16, (17, Yes), Form 0, Form 2, Form 4)
+    -- 5 / n
+    ∷ (integer-first 89, Unrated, (5, No), resolved.ZeroModulus, Form 5, Form 2)
     -- no tree: an unknown code
-    ∷ (alone 25 0 1, rated.NoTree, (2, fit.NoTree), resolved.NoTree, resolved.NoTree, resolved.NoTree)
+    ∷ (alone 29 0 1, rated.NoTree, (2, fit.NoTree), resolved.NoTree, resolved.NoTree, resolved.NoTree)
     ∷ []
 
 abbrev computed : Row → Row
@@ -80,5 +91,5 @@ computed ((P, c, r), _, (k, _), _, _, _) = ((P, c, r), ratedOf P c r, (k, fitOf 
 
 pub rows-hold : map computed rows ≡ rows
 unfolding resolvedOf ratedOf fitOf isTree shaped used operands operandsTo allBelow distinct member treeOf treeAt opOf opAt
-    evalTree binary negated chosen truthV rateTree binRange opRange condRange notRange fitsRange
+    evalTree binary calculated negated chosen truthV rateTree binRange opRange kept condRange notRange fitsRange
 rows-hold = refl

@@ -1,19 +1,27 @@
 -- The answers of a rating at a place of a pool, by its code and its operands' ranges.
 use mathlib.Core.Path.{_≡_, refl, sym, ap, _∙_}
+use mathlib.Core.Bool.{Bool, true, false}
 use mathlib.Core.Option.{some}
-use Prim.Native.Nat.{ℕ, _-_, _<_, _%_}
+use Prim.Native.Nat.{ℕ, _+_, _-_, _*_, _/_, _%_, _^_, _<_, _≤_}
 use native.Mathlib.Omega.{arith}
-use borrow.Author.Tests.{lt-ltb, le-ltb, ne-eqb}
+use native.Mathlib.Nat.{mul-zero, mul-le-mul, le-div-iff-mul-le}
+use lib.Dec.{ltb, leb, eqb}
+use borrow.Author.Tests.{ltb-true, ltb-false, leb-true, leb-false, eqb-true, eqb-false, lt-ltb, le-ltb, le-leb, lt-leb, eq-eqb, ne-eqb}
 use Rattle.rules.specs.declared.Rating.{Rating}
-use Rattle.rules.specs.declared.Rating.the-variants.{Range}
-use Rattle.rules.specs.Tree.{Op, cmp, and, or, rem}
+use Rattle.rules.specs.declared.Rating.the-variants.{Range, Unrated}
+use Rattle.rules.specs.Tree.{Tree, Op, cmp, calc, and, or, rem, div, var, int, bin, Calc, plus, minus, times}
 use Rattle.rules.specs.Operator.{opOf, opAt, opCode, Named}
-use Rattle.rules.specs.Range.{rateTree, opRange, notRange, binRange, condRange}
+use Rattle.rules.specs.Range.{rateTree, kept, opRange, notRange, binRange, condRange}
 use Rattle.rules.specs.Pool.{Pool, code, field, value, leaf, one, two, treeOf}
 use Rattle.rules.specs.Sound.{Sound}
-use Rattle.rules.proofs.Operators.{code-is}
+use Rattle.rules.proofs.Operators.{code-is, op-at}
+use Rattle.rules.proofs.InRange.{ordered}
+use Rattle.rules_operators.proofs.Operators.{is-rem, is-div}
 use Rattle.rules.proofs.Trees.{tree-leaf, tree-one, tree-two, tree-three, leaf-op, leaf-rest, one-op, two-op}
-use Rattle.rules_range.specs.Private.{Joins}
+use Rattle.rules_range.specs.Private.{Ordered, Joins}
+
+abbrev pub Count : Rating
+Count = Range 0 18446744073709551615
 
 -- the operators before % yield truths
 pub truths : (i : ℕ) (op : Op) (k h l m : ℕ) → opOf i ≡ some op → i < 8 → opRange op k h l m ≡ Range 0 1
@@ -22,9 +30,82 @@ truths i (cmp c) k h l m e b = refl
 truths i and k h l m e b = refl
 truths i or k h l m e b = refl
 truths i rem k h l m e b = let d = code-is i rem e in absurd (omega arith)
+truths i div k h l m e b = let d = code-is i div e in absurd (omega arith)
+truths i (calc plus) k h l m e b = let d = code-is i (calc plus) e in absurd (omega arith)
+truths i (calc minus) k h l m e b = let d = code-is i (calc minus) e in absurd (omega arith)
+truths i (calc times) k h l m e b = let d = code-is i (calc times) e in absurd (omega arith)
 
-abbrev pub Count : Rating
-Count = Range 0 18446744073709551615
+-- the rows of + - * /
+pub zero-fits : (x y : ℕ) → y ≡ 0 → ltb (x * y) (2 ^ 64) ≡ true
+zero-fits x y e = lt-ltb (x * y) (2 ^ 64) (let z : x * y ≡ 0 = rw e (mul-zero x) in omega arith)
+
+pub fits-by : (x y : ℕ) → (y ≡ 0 → ⊥) → x ≤ 18446744073709551615 / y → ltb (x * y) (2 ^ 64) ≡ true
+fits-by x y n h = let d = le-div-iff-mul-le {k = y} {x = x} {y = 18446744073709551615} (omega arith) .0 h in lt-ltb (x * y) (2 ^ 64) (omega arith)
+
+pub fits-not : (x y : ℕ) → (y ≡ 0 → ⊥) → 18446744073709551615 / y < x → ltb (x * y) (2 ^ 64) ≡ false
+fits-not x y n h = le-ltb (x * y) (2 ^ 64) (go (ltb (x * y) (2 ^ 64)) refl)
+  where
+    go : (b : Bool) → ltb (x * y) (2 ^ 64) ≡ b → 2 ^ 64 ≤ x * y
+    go true e = let d = ltb-true (x * y) (2 ^ 64) e in let g = le-div-iff-mul-le {k = y} {x = x} {y = 18446744073709551615} (omega arith) .1 (omega arith) in absurd (omega arith)
+    go false e = ltb-false (x * y) (2 ^ 64) e
+
+pub fits-low : (x y : ℕ) {b : Bool} → b ≡ ltb (x * y) (2 ^ 64) → b ≡ true → x * y < 2 ^ 64
+fits-low x y e d = ltb-true (x * y) (2 ^ 64) (sym e ∙ d)
+
+pub fits-told : (x y : ℕ) → (y ≡ 0 → ⊥) → leb x (18446744073709551615 / y) ≡ ltb (x * y) (2 ^ 64)
+fits-told x y n = go (leb x (18446744073709551615 / y)) refl
+  where
+    go : (b : Bool) → leb x (18446744073709551615 / y) ≡ b → leb x (18446744073709551615 / y) ≡ ltb (x * y) (2 ^ 64)
+    go true e = e ∙ sym (fits-by x y n (leb-true x (18446744073709551615 / y) e))
+    go false e = e ∙ sym (fits-not x y n (leb-false x (18446744073709551615 / y) e))
+
+-- a divisor whose lowest is 0
+pub by-zero : (i : ℕ) (op : Op) (k h l m : ℕ) → opOf i ≡ some op → 7 < i → i < 10 → l ≡ 0 → opRange op k h l m ≡ Unrated
+unfolding opRange
+by-zero i op k h l m e b c z = go (eqb i 8) refl
+  where
+    go : (x : Bool) → eqb i 8 ≡ x → opRange op k h l m ≡ Unrated
+    go true q = rw (is-rem i op e (eqb-true i 8 q), eq-eqb l 0 z)
+    go false q = rw (is-div i op e b c (eqb-false i 8 q), eq-eqb l 0 z)
+
+pub plus-kept : (k h l m : ℕ) → h + m < 2 ^ 64 → Range (k + l) (h + m) ≡ opRange (calc plus) k h l m
+unfolding opRange kept
+plus-kept k h l m e = rw (lt-ltb (h + m) (2 ^ 64) e)
+
+pub plus-full : (k h l m : ℕ) → 2 ^ 64 ≤ h + m → Count ≡ opRange (calc plus) k h l m
+unfolding opRange kept
+plus-full k h l m e = rw (le-ltb (h + m) (2 ^ 64) e)
+
+pub minus-kept : (k h l m : ℕ) → m ≤ k → h - l < 2 ^ 64 → Range (k - m) (h - l) ≡ opRange (calc minus) k h l m
+unfolding opRange kept
+minus-kept k h l m e d = rw (le-leb m k e, lt-ltb (h - l) (2 ^ 64) d)
+
+pub minus-full : (k h l m : ℕ) → k < m → Count ≡ opRange (calc minus) k h l m
+unfolding opRange
+minus-full k h l m e = rw (lt-leb m k e)
+
+pub times-kept : (k h l m : ℕ) → ltb (h * m) (2 ^ 64) ≡ true → Range (k * l) (h * m) ≡ opRange (calc times) k h l m
+unfolding opRange kept
+times-kept k h l m e = rw e
+
+pub times-full : (k h l m : ℕ) → ltb (h * m) (2 ^ 64) ≡ false → Count ≡ opRange (calc times) k h l m
+unfolding opRange kept
+times-full k h l m e = rw e
+
+-- ranges whose lowest is not above their highest: that of a tree, and that of one number
+pub tree-ordered : {r : Rating} (t : Tree) → r ≡ rateTree t → Ordered r
+tree-ordered t g = record { is = λ l h e. ordered t l h (sym g ∙ e) }
+
+same-ends : {l h k m : ℕ} → Range l h ≡ Range k m → (l ≡ k) × (h ≡ m)
+same-ends e = (cc, cc)
+
+-- that of n % m
+pub rest-ordered : {m : ℕ} {x y : Rating} → x ≡ Range m m → Joins 8 Count x y → Ordered y
+unfolding rateTree opOf opAt
+rest-ordered {m} g j = tree-ordered (bin rem var (int m)) (j .is rem refl ∙ ap (λ (z : Rating). binRange rem Count z) g)
+
+pub ends-ordered : (l h : ℕ) {r : Rating} → r ≡ Range l h → l ≤ h → Ordered r
+ends-ordered l h g d = record { is = λ k m e. let z = same-ends (sym g ∙ e) in omega (arith, z .0, z .1) }
 
 module _ (P : Pool) (p : ℕ) where
   abbrev ra : ℕ → Rating

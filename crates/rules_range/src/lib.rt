@@ -6,14 +6,15 @@ use rules::field;
 use rules::node;
 use rules::place;
 ghost use mathlib.Core.Path.{_≡_};
-ghost use Prim.Native.Nat.{_+_, _-_, _<_, _≤_, _*_, min, max};
+ghost use Prim.Native.Nat.{_+_, _-_, _<_, _≤_, _*_, _^_, min, max};
 ghost use lib.ListN.{getD};
+ghost use lib.Dec.{ltb};
 ghost use Rattle.rules.specs.declared.Rating.the-variants as rating;
 ghost use Rattle.rules.specs.Range.{notRange, condRange, rateTree};
 ghost use Rattle.rules.specs.Pool.{pool, treeOf};
 ghost use Rattle.rules.specs.Sound.{Sound};
 ghost use Rattle.rules.specs.Answer.{ratedOf, fitOf};
-ghost use Rattle.rules_range.specs.Private.{Ranges, Joins};
+ghost use Rattle.rules_range.specs.Private.{Ordered, Calculates, Ranges, Joins};
 
 // The largest count, 2^64 - 1.
 const LARGEST: u64 = 0xffff_ffff_ffff_ffff;
@@ -40,21 +41,66 @@ fn less(x: u64) -> u64
     x - 1
 }
 
+// Whether a product fits 64 bits.
+fn product_fits(x: u64, y: u64) -> bool
+    ensures { λ r. ⌜ r ≡ ltb (x * y) (2 ^ 64) ⌝ }
+{
+    if y == 0 {
+        return true;
+    }
+    x <= LARGEST / y
+}
+
+// The range of a sum, a difference or a product: its own where it cannot wrap, else all numbers.
+fn calculated(op: u8, k: u64, h: u64, l: u64, m: u64) -> Rating
+    requires { ⌜ (k ≤ h) × (l ≤ m) ⌝ }
+    ensures { λ r. ⌜ Calculates op k h l m r ⌝ }
+{
+    match op {
+        node::PLUS => {
+            if h <= LARGEST - m {
+                return Rating::Range(k + l, h + m);
+            }
+            Rating::Range(0, LARGEST)
+        }
+        node::MINUS => {
+            if m <= k {
+                return Rating::Range(k - m, h - l);
+            }
+            Rating::Range(0, LARGEST)
+        }
+        _ => {
+            if product_fits(h, m) {
+                return Rating::Range(k * l, h * m);
+            }
+            Rating::Range(0, LARGEST)
+        }
+    }
+}
+
 // The range of a binary operator on a left operand from k to h and a right one from l to m. The operators before % yield truths.
 fn ranged(op: u8, k: u64, h: u64, l: u64, m: u64) -> Rating
+    requires { ⌜ (k ≤ h) × (l ≤ m) ⌝ }
     ensures { λ r. ⌜ Ranges op k h l m r ⌝ }
 {
     if op < node::MODULO {
         return Rating::Range(0, 1);
     }
+    if node::PLUS <= op {
+        return calculated(op, k, h, l, m);
+    }
     if l == 0 {
         return Rating::Unrated;
     }
-    Rating::Range(0, least(h, less(m)))
+    if op == node::MODULO {
+        return Rating::Range(0, least(h, less(m)));
+    }
+    Rating::Range(k / m, h / l)
 }
 
 // The range of a binary operator, by its operands'.
 fn binary(op: u8, left: Rating, right: Rating) -> Rating
+    requires { ⌜ Ordered left × Ordered right ⌝ }
     ensures { λ r. ⌜ Joins op left right r ⌝ }
 {
     let Rating::Range(k, h) = left else {

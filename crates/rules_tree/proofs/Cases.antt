@@ -44,7 +44,7 @@ rows =
     ∷ row (over 80 0 0) 3 3 false
     ∷ row (over 80 0 0) 0 0 false
     -- an unknown code, between the groups and after them; at the count, and off the root's tree
-    ∷ row (over 89 0 0) 3 2 false
+    ∷ row (over 93 0 0) 3 2 false
     ∷ row (over 113 0 1) 3 2 false
     ∷ row (over 255 0 1) 2 1 true
     ∷ row (over 255 0 1) 3 1 false
@@ -70,7 +70,7 @@ knownBelow zero = []
 knownBelow (suc c) = elim (known c) [ true ↦ c ∷ knownBelow c | false ↦ knownBelow c ]
 
 pub known-codes : knownBelow 256
-    ≡ 112 ∷ 96 ∷ (88 ∷ 87 ∷ 86 ∷ 85 ∷ 84 ∷ 83 ∷ 82 ∷ 81 ∷ 80 ∷ []) ++ (72 ∷ 71 ∷ 70 ∷ 69 ∷ 68 ∷ 67 ∷ 66 ∷ 65 ∷ 64 ∷ [])
-    ++ (49 ∷ 48 ∷ []) ++ (40 ∷ 39 ∷ 38 ∷ 37 ∷ 36 ∷ 35 ∷ 34 ∷ 33 ∷ 32 ∷ []) ++ (24 ∷ 23 ∷ 22 ∷ 21 ∷ 20 ∷ 19 ∷ 18 ∷ 17 ∷ 16 ∷ []) ++ (1 ∷ 0 ∷ [])
+    ≡ 112 ∷ 96 ∷ (92 ∷ 91 ∷ 90 ∷ 89 ∷ 88 ∷ 87 ∷ 86 ∷ 85 ∷ 84 ∷ 83 ∷ 82 ∷ 81 ∷ 80 ∷ []) ++ (76 ∷ 75 ∷ 74 ∷ 73 ∷ 72 ∷ 71 ∷ 70 ∷ 69 ∷ 68 ∷ 67 ∷ 66 ∷ 65 ∷ 64 ∷ [])
+    ++ (49 ∷ 48 ∷ []) ++ (44 ∷ 43 ∷ 42 ∷ 41 ∷ 40 ∷ 39 ∷ 38 ∷ 37 ∷ 36 ∷ 35 ∷ 34 ∷ 33 ∷ 32 ∷ []) ++ (28 ∷ 27 ∷ 26 ∷ 25 ∷ 24 ∷ 23 ∷ 22 ∷ 21 ∷ 20 ∷ 19 ∷ 18 ∷ 17 ∷ 16 ∷ []) ++ (1 ∷ 0 ∷ [])
 unfolding knownBelow
 known-codes = refl

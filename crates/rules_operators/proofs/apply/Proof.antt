@@ -1,15 +1,19 @@
 -- `rules_operators::apply` meets its contract: each return is the definition at the operator that the tests before it leave.
-use mathlib.Core.Path.{refl, sym, ap, _∙_}
+use mathlib.Core.Path.{_≡_, refl, sym, ap, _∙_}
 use borrow.Author.Tests.{eq-eqb, ne-eqb}
 use native.Mathlib.Omega.{arith}
+use borrow.Author.Needs.{needs}
 use Rattle.rules.specs.declared.Value.the-variants.{Is}
 use Rattle.rules.specs.Value.{binary, truthV}
-use Rattle.rules.proofs.Operators.{is-rem}
-use Rattle.rules_operators.proofs.Operators.{low-cmp, is-and, is-or}
+use Rattle.rules_operators.proofs.Operators.{low-cmp, high-calc, is-and, is-or, is-rem, is-div, by-zero}
 use Rattle.rules_operators.proofs.Given.{applied-number, applied-zero}
-use borrow.Author.Needs.{needs}
 use Rattle.rules_operators.proofs.apply.Statement.{statement}
 use Rattle.rules_operators.proofs.apply.Tie as tie
+use Rattle.rules_operators.proofs.apply.Reads as reads
+use Rattle.rules_operators.proofs.apply.Lts as lts
+use Rattle.rules_operators.proofs.calculates.Reads as calculates-reads
+use Rattle.rules_operators.proofs.compares.Reads as compares-reads
+use Rattle.rules_operators.proofs.truth.Reads as truth-reads
 
 compares-requires : tie.Need-compares-requires
 compares-requires c κs = search needs
@@ -46,17 +50,32 @@ returns-5 : tie.Need-returns-5
 unfolding binary
 returns-5 c = applied-number λ op e. rw (is-or _ op e (c .before .if4 .taken), ne-eqb _ _ (c .if5 .left))
 
+calculates-requires : tie.Need-calculates-requires
+calculates-requires c κs = search needs
+
 returns-6 : tie.Need-returns-6
 unfolding binary
 returns-6 c =
-    applied-zero (λ op e. rw (is-rem (c .before .before .before .before .args .op) op e (omega arith), eq-eqb _ _ (c .if6 .taken))) refl refl
+    applied-number λ op e.
+    let k = high-calc _ op e (c .before .if6 .taken) in
+    rw (k .is) (ap Is (sym (c .calculates .ensures .is (k .which) (rw (k .is) at e))))
+
+returns-7 : tie.Need-returns-7
+returns-7 c = let s : tie.Start = c .before .before .before .before .before in applied-zero (λ op e. rw (c .if7 .taken) (by-zero (s .args .op) op _ e (omega arith) (c .before .if6 .left))) refl refl
 
 rem-result : tie.Need-rem-result
 rem-result c = search needs
 
-returns-7 : tie.Need-returns-7
+returns-8 : tie.Need-returns-8
 unfolding binary
-returns-7 c = applied-number λ op e. rw (is-rem (c .before .before .before .before .args .op) op e (omega arith), ne-eqb _ _ (c .if6 .left))
+returns-8 c = applied-number λ op e. rw (is-rem _ op e (c .if8 .taken), ne-eqb _ _ (c .before .if7 .left))
+
+div-result : tie.Need-div-result
+div-result c = search needs
+
+returns-9 : tie.Need-returns-9
+unfolding binary
+returns-9 c = let s : tie.Start = c .before .before .before .before .before .before in applied-number λ op e. rw (is-div (s .args .op) op e (omega arith) (c .before .before .if6 .left) (c .if8 .left), ne-eqb _ _ (c .before .if7 .left))
 
 pub apply-spec : {M : Type 1} → statement M
 apply-spec =
@@ -71,6 +90,10 @@ apply-spec =
     truth-requires-3
     returns-4
     returns-5
+    calculates-requires
     returns-6
+    returns-7
     rem-result
-    returns-7)
+    returns-8
+    div-result
+    returns-9)

@@ -6,7 +6,7 @@ use denote.Ref.{now}
 use borrow.Author.Needs.{needs}
 use Rattle.rules.specs.Pool.{Pool, pool}
 use Rattle.rules.proofs.Trees.{before-in, first-in, second-in, op-low, op-high, down}
-use Rattle.rules_range.proofs.Ranges.{rate-count, rate-int, rate-op, rate-rest, rate-nay, rate-picked, rate-one, rate-two, rate-chosen, rate-three, moved, within}
+use Rattle.rules_range.proofs.Ranges.{tree-ordered, ends-ordered, rest-ordered, rate-count, rate-int, rate-op, rate-rest, rate-nay, rate-picked, rate-one, rate-two, rate-chosen, rate-three, moved, within}
 use Prim.Native.Nat.{ℕ, _<_}
 use borrow.Fn.Kinds.{In}
 use borrow.Fn.PlainCycle.{Measures, is, falls, and}
@@ -59,7 +59,7 @@ rate-returns-2 : (t : ℕ) → rate-lts.Need-returns-2 (R-rate t) (rate-at t) ra
 rate-returns-2 t c = let s : St t = c .before .before .before .before .before in rate-int (P s) (s .args .at) (c .before .integer .ensures) (c .before .before .before .if1 .left) (c .if2 .taken)
 
 rate-binary-requires : (t : ℕ) → rate-lts.Need-binary-requires (R-rate t) (rate-at t) rate.Post
-rate-binary-requires t c κs = search needs
+rate-binary-requires t c κs = (ends-ordered 0 18446744073709551615 refl (omega arith), ends-ordered _ _ (c .before .before .integer .ensures) (omega arith))
 
 rate-returns-3 : (t : ℕ) → rate-lts.Need-returns-3 (R-rate t) (rate-at t) rate.Post
 rate-returns-3 t c = let s : St t = c .before .before .before .before .before .before .before in rate-op (P s) (s .args .at) (c .before .before .before .integer .ensures) (c .before .before .if2 .left) (c .before .if3 .taken) (op-low (s .pre .1) (c .before .before .if2 .left) (omega arith)) (c .binary .ensures)
@@ -68,10 +68,10 @@ rate-small-requires : (t : ℕ) → rate-lts.Need-small-requires (R-rate t) (rat
 rate-small-requires t c κs = let s : St t = c .before .before .before .before .before .before .before in within (s .pre .1)
 
 rate-binary-requires-2 : (t : ℕ) → rate-lts.Need-binary-requires-2 (R-rate t) (rate-at t) rate.Post
-rate-binary-requires-2 t c κs = search needs
+rate-binary-requires-2 t c κs = (ends-ordered 0 18446744073709551615 refl (omega arith), ends-ordered _ _ (c .small .ensures) (omega arith))
 
 rate-binary-requires-3 : (t : ℕ) → rate-lts.Need-binary-requires-3 (R-rate t) (rate-at t) rate.Post
-rate-binary-requires-3 t c κs = search needs
+rate-binary-requires-3 t c κs = (rest-ordered (c .before .small .ensures) (c .binary2 .ensures), ends-ordered _ _ (c .before .before .before .before .before .integer .ensures) (omega arith))
 
 rate-returns-4 : (t : ℕ) → rate-lts.Need-returns-4 (R-rate t) (rate-at t) rate.Post
 rate-returns-4 t c = let s : St t = c .before .before .before .before .before .before .before .before .before .before in rate-rest (P s) (s .args .at) (c .before .before .before .before .before .before .integer .ensures) (c .before .before .before .before .if3 .left) (c .before .before .before .if4 .taken) (op-low (s .pre .1) (c .before .before .before .before .before .if2 .left) (c .before .before .before .if4 .taken)) (c .before .before .small .ensures) (c .before .binary2 .ensures) (c .binary3 .ensures)
@@ -98,7 +98,7 @@ rate-returns-6 : (t : ℕ) → rate-lts.Need-returns-6 (R-rate t) (rate-at t) ra
 rate-returns-6 t c = let s : St t = c .before .before .before .before .before .before .before .before .before .before .before .before in rate-picked (P s) (s .args .at) (before-in (s .pre .1) (c .before .before .before .before .before .if4 .left)) (c .before .before .before .before .rate .ensures) (c .before .before .before .before .before .if4 .left) (c .before .before .before .if5 .left) (c .before .before .if6 .taken) (c .before .before .before .before .before .before .before .before .integer .ensures) (c .before .small2 .ensures) (c .ternary .ensures)
 
 rate-binary-requires-4 : (t : ℕ) → rate-lts.Need-binary-requires-4 (R-rate t) (rate-at t) rate.Post
-rate-binary-requires-4 t c κs = search needs
+rate-binary-requires-4 t c κs = (tree-ordered _ (c .before .before .before .rate .ensures), ends-ordered _ _ (c .before .before .before .before .before .before .before .integer .ensures) (omega arith))
 
 rate-returns-7 : (t : ℕ) → rate-lts.Need-returns-7 (R-rate t) (rate-at t) rate.Post
 rate-returns-7 t c = let s : St t = c .before .before .before .before .before .before .before .before .before .before .before .before in rate-one (P s) (s .args .at) (before-in (s .pre .1) (c .before .before .before .before .before .if4 .left)) (c .before .before .before .before .rate .ensures) (c .before .before .if6 .left) (c .before .if7 .taken) (op-high (s .pre .1) (c .before .before .if6 .left) (omega arith)) (c .before .before .before .before .before .before .before .before .integer .ensures) (c .binary4 .ensures)
@@ -110,7 +110,7 @@ rate-rate-requires-2 : (t : ℕ) → rate-lts.Need-rate-requires-2 (R-rate t) (r
 rate-rate-requires-2 t c κs = let s : St t = c .before .before .before .before .before .before .before .before .before .before .before .before in down (s .pre .1) (s .pre .0) (first-in (s .pre .1) (c .before .if7 .left)) (c .place .ensures)
 
 rate-binary-requires-5 : (t : ℕ) → rate-lts.Need-binary-requires-5 (R-rate t) (rate-at t) rate.Post
-rate-binary-requires-5 t c κs = search needs
+rate-binary-requires-5 t c κs = (tree-ordered _ (c .before .rate2 .ensures), tree-ordered _ (c .before .before .before .before .before .before .rate .ensures))
 
 rate-returns-8 : (t : ℕ) → rate-lts.Need-returns-8 (R-rate t) (rate-at t) rate.Post
 rate-returns-8 t c = let s : St t = c .before .before .before .before .before .before .before .before .before .before .before .before .before .before .before in rate-two (P s) (s .args .at) (before-in (s .pre .1) (c .before .before .before .before .before .before .before .before .if4 .left)) (c .before .before .before .before .before .before .before .rate .ensures) (first-in (s .pre .1) (c .before .before .before .before .if7 .left)) (moved (P s) (c .before .before .rate2 .ensures) (c .before .before .before .place .ensures)) (c .before .before .before .before .if7 .left) (c .before .if8 .taken) (op-high (s .pre .1) (c .before .before .before .before .before .if6 .left) (c .before .if8 .taken)) (c .binary5 .ensures)

@@ -29,7 +29,7 @@ unfolding binRange
 returns-2 c = record { is = λ op e. rw (c .before .before .before .left .given .1, c .enum-told2 .given .1) }
 
 ranged-requires : tie.Need-ranged-requires
-ranged-requires c κs = search needs
+ranged-requires c κs = let s : tie.Start = c .before .before .before .before .before .before in (s .pre .0 .is _ _ (c .before .before .before .before .left .given .1), s .pre .1 .is _ _ (c .before .right .given .1))
 
 returns-3 : tie.Need-returns-3
 unfolding binRange
