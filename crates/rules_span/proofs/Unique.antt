@@ -11,7 +11,7 @@ use Rattle.rules_span.proofs.tally.Reads as tally
 use Rattle.rules_span.proofs.tally.Kinds as tally-kinds
 
 abbrev pub tally-left : (κs : Lfts 2) → AtExit (endedOf 2 tally-kinds.ps tally-kinds.r) κs → List ℕ
-tally-left κs x = now (x .0)
+tally-left κs x = now (x .1 .1 .1 .1 .1 .1 .1 .0)
 
 pub tally-one : OneLeft 2 tally-kinds.ps tally-kinds.r tally.Post tally-left
 tally-one κs a u v x y p q = (p .0 ∙ sym (q .0), p .1 ∙ sym (q .1))
