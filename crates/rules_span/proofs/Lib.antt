@@ -1,0 +1,3 @@
+pub mod Figures
+mod Cases
+pub mod Unique
