@@ -12,7 +12,7 @@ use native.Mathlib.Omega.{arith}
 use lib.ListN.{length, getD, take, drop}
 use contract.Lifetimes.{Lfts}
 use borrow.Fn.Kinds.{PK, RK, Dens, In}
-use Rattle.text_trim.specs.Trim.{trim, six}
+use Rattle.text_trim.specs.Trim.{trim, whiteSpace}
 use Rattle.text_utf8.specs.Utf8.{utf8}
 use Rattle.text_utf8.specs.Scalar.{Text}
 use Rattle.text_utf8.proofs.Scalars.{utf8-is-text}
@@ -167,7 +167,7 @@ module _ (o : Options) (f s : List ℕ) {Q : Pool} {r : Loaded} (loads : Loads (
       by-answer (refused x) e = record { error = x; number = loads .number-is ∙ ap (λ (a : Answer). outcomeNumber (outcomeOf a)) e; fails = refused-exactly o f s x .0 e }
 
 -- a rule text is read as a tree, in the Standard reading, exactly if, trimmed, it means that tree in C's grammar (GNU gettext manual, 11.2.6)
-pub demand-2-rule : (f : List ℕ) (t : Tree) → (parsed Standard f ≡ rule t) ↔ IsRule (trim six f) t
+pub demand-2-rule : (f : List ℕ) (t : Tree) → (parsed Standard f ≡ rule t) ↔ IsRule (trim whiteSpace f) t
 demand-2-rule f t = standard-exactly f t
 
 -- 3. The rule that was loaded, at a count: it takes no remainder by zero, and yields a form from lo to hi, so below k; that is what the

@@ -134,7 +134,7 @@ pub extern "C" fn gettext_c_npgettext<'a>(
         values,
         nodes,
         root,
-        true,
+        true, // the key has the context
         context,
         id,
         n,
@@ -251,7 +251,7 @@ pub extern "C" fn gettext_c_npgettext_indexed<'a>(
         values,
         nodes,
         root,
-        true,
+        true, // and here
         context,
         id,
         n,

@@ -10,7 +10,7 @@ use lib.Dec.{ltb}
 use borrow.Author.Tests.{ltb-false, le-ltb}
 use Rattle.text.specs.Bytes.{all}
 use Rattle.text.proofs.Tests.{taken, left, by-test}
-use Rattle.text_trim.specs.Trim.{trim, six}
+use Rattle.text_trim.specs.Trim.{trim, whiteSpace}
 use Rattle.refusal.specs.declared.Error.{Error}
 use Rattle.refusal.specs.declared.Error.the-variants.{PluralParsing, RuleTooLong}
 use Rattle.rules.specs.Tree as tree
@@ -51,6 +51,6 @@ module _ (s : List ℕ) (t : Tree) where
       ∙ taken (made (standard s)) (norule PluralParsing) (w .ascii)
       ∙ ap made (agrees-text s t .1 (w .means))
 
-pub standard-exactly : (s : List ℕ) (t : Tree) → (parsed Standard s ≡ rule t) ↔ IsRule (trim six s) t
+pub standard-exactly : (s : List ℕ) (t : Tree) → (parsed Standard s ≡ rule t) ↔ IsRule (trim whiteSpace s) t
 unfolding parsed
-standard-exactly s t = (to-rule (trim six s) t, from-rule (trim six s) t)
+standard-exactly s t = (to-rule (trim whiteSpace s) t, from-rule (trim whiteSpace s) t)
