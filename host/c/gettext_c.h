@@ -43,7 +43,8 @@ enum gr_number {
     GR_RULE_TOO_LONG = 8,      /* the plural rule has over 512 bytes */
     GR_ZERO_MODULUS = 10,      /* the plural rule takes a remainder by zero at this count */
     GR_BAD_RECORD = 11,        /* the file has another length than the record says, or its rule is no tree */
-    GR_INDEX_ROOM = 12         /* fewer slots are lent than the index uses */
+    GR_INDEX_ROOM = 12,        /* fewer slots are lent than the index uses */
+    GR_BAD_SPAN = 17           /* a span of counts that ends before it begins, or of over 1,000,000 */
 };
 
 /* Which text answers a lookup. */
@@ -161,6 +162,8 @@ gr_range gettext_c_rating(const gr_head *head, const uint8_t codes[512], const u
 gr_fit gettext_c_fits(const gr_head *head, const uint8_t codes[512], const uint16_t places[1024], const uint64_t values[512], uint64_t k);
 gr_form gettext_c_resolve(const gr_head *head, const uint8_t codes[512], const uint16_t places[1024], const uint64_t values[512],
                           uint64_t n);
+uint32_t gettext_c_span(const gr_head *head, const uint8_t codes[512], const uint16_t places[1024], const uint64_t values[512], uint64_t a,
+                        uint64_t b, uint64_t figures[18]);
 uint32_t gettext_c_is_utf8(const uint8_t *text, size_t text_len);
 uint64_t gettext_c_cost(const uint8_t *file, size_t file_len);
 
@@ -173,6 +176,9 @@ typedef struct gr_text {
     size_t len;
     uint32_t number;
 } gr_text;
+
+/* Figures of a span: of forms 0 to 15, then of those above, then of the counts that meet a zero divisor. */
+enum { GR_ABOVE = 16, GR_ZERO = 17, GR_FIGURES = 18 };
 
 /* How to load. All zero, the default: no rule is forced, rules are read the Shipped way, and the charset label must be UTF-8's. */
 typedef struct gr_options {
@@ -197,6 +203,7 @@ static inline const char *gr_error_name(uint32_t number)
     case GR_ZERO_MODULUS: return "the plural expression divides by zero";
     case GR_BAD_RECORD: return "the record does not belong to the file";
     case GR_INDEX_ROOM: return "too few slots for the index";
+    case GR_BAD_SPAN: return "no span of at most 1000000 counts";
     default: return "no such number";
     }
 }
@@ -352,6 +359,15 @@ static inline gr_fit gr_fits(const gr_record *r, uint64_t k)
 static inline gr_form gr_resolve(const gr_record *r, uint64_t n)
 {
     return gettext_c_resolve(&r->head, r->codes, r->places, r->values, n);
+}
+
+/*
+ * How often each form of the rule occurs for the counts from a to b, both counted in. Answers GR_OK, GR_BAD_RECORD or GR_BAD_SPAN; a refusal leaves
+ * all figures 0. The figures add up to b - a + 1.
+ */
+static inline uint32_t gr_span(const gr_record *r, uint64_t a, uint64_t b, uint64_t figures[GR_FIGURES])
+{
+    return gettext_c_span(&r->head, r->codes, r->places, r->values, a, b, figures);
 }
 
 /* Whether a text is UTF-8 by RFC 3629. */

@@ -282,9 +282,30 @@ static void longest_rules(void)
     free(g);
 }
 
+/* Which forms a rule names over a span of counts. */
+static void spans(void)
+{
+    size_t size = 50;
+    uint8_t *g = copy(size);
+    gr_record r;
+    uint64_t figures[GR_FIGURES];
+    CHECK(gr_load(g, size, with("n%3", GR_STANDARD), &r) == GR_OK);
+    CHECK(gr_span(&r, 0, 9, figures) == GR_OK && figures[0] == 4 && figures[1] == 3 && figures[2] == 3 && figures[3] == 0);
+    CHECK(gr_span(&r, UINT64_MAX, UINT64_MAX, figures) == GR_OK && figures[0] == 1 && figures[1] == 0);
+    CHECK(gr_span(&r, 1, 0, figures) == GR_BAD_SPAN && figures[0] == 0 && figures[1] == 0);
+    CHECK(gr_span(&r, 0, 999999, figures) == GR_OK && figures[0] == 333334);
+    CHECK(gr_span(&r, 0, 1000000, figures) == GR_BAD_SPAN && figures[0] == 0);
+    CHECK(gr_load(g, size, with("40/(n%2)", GR_STANDARD), &r) == GR_OK);
+    CHECK(gr_span(&r, 0, 4, figures) == GR_OK && figures[GR_ABOVE] == 2 && figures[GR_ZERO] == 3);
+    r.head.root = 512;
+    CHECK(gr_span(&r, 1, 0, figures) == GR_BAD_RECORD && figures[GR_ZERO] == 0);
+    free(g);
+}
+
 int main(void)
 {
     nulls();
+    spans();
     options_and_names();
     longest_rules();
     loads_and_refusals();

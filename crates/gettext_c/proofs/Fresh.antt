@@ -53,6 +53,7 @@ never-0 error.RuleTooLong e = omega arith
 never-0 error.ZeroModulus e = omega arith
 never-0 error.BadRecord e = omega arith
 never-0 error.IndexRoom e = omega arith
+never-0 error.BadSpan e = omega arith
 
 -- so a load with number 0 was accepted
 number-0-accepted : (a : Answer) → outcomeNumber (outcomeOf a) ≡ 0 → a ≡ accepted (tablesIn a) (treeIn a)

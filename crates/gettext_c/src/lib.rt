@@ -13,6 +13,8 @@ ghost use mathlib.Core.Bool.{true};
 ghost use Rattle.text_utf8.specs.Utf8.{utf8};
 ghost use Rattle.rules.specs.Pool.{pool};
 ghost use Rattle.rules.specs.Value.{truth};
+ghost use Rattle.rules_span.specs.Span as span;
+ghost use Rattle.rules_span.specs.Span.{tallyOf, figuresOf};
 ghost use Rattle.rules.specs.Answer.{resolvedOf, ratedOf, fitOf};
 ghost use Rattle.lookup_scan.specs.Keys.{keyOf};
 ghost use Rattle.lookup_slots.specs.Used.{used};
@@ -307,6 +309,29 @@ pub extern "C" fn gettext_c_resolve<'a>(
     let nodes = head[5];
     let root = head[6];
     host::form_of(rules_value::resolve(codes, places, values, nodes, root, n))
+}
+
+// How often each form of a record's rule occurs for the counts from a to b: the figures of forms 0 to 15, of those above, and of the counts
+// that meet a zero divisor.
+#[no_mangle]
+pub extern "C" fn gettext_c_span<'a>(
+    head: &'a [usize; 7],
+    codes: &'a [u8; 512],
+    places: &'a [u16; 1024],
+    values: &'a [u64; 512],
+    a: u64,
+    b: u64,
+    figures: &mut [u64; 18],
+) -> u32
+    ensures number { λ r. ⌜ r ≡ span.number (tallyOf (pool (now (codes .entry)) (now (places .entry)) (now (values .entry)))
+        (nodesIn (now (head .entry))) (rootIn (now (head .entry))) a b) ⌝ }
+    ensures figures { λ _. ⌜ now (figures .exit) ≡ figuresOf (pool (now (codes .entry)) (now (places .entry)) (now (values .entry)))
+        (nodesIn (now (head .entry))) (rootIn (now (head .entry))) a b ⌝ }
+{
+    let nodes = head[5];
+    let root = head[6];
+    let counting = rules_span::tally(codes, places, values, nodes, root, a, b, figures);
+    rules_span::number_of(counting)
 }
 
 // Whether a text is UTF-8: 1 or 0.

@@ -1,7 +1,7 @@
 -- The numbers of document 01, "Numbers returned", and 12 of document 02, d. 0 is none of them; 9 is not given (document 02, k).
 use Prim.Native.Nat.{ℕ}
 use Rattle.refusal.specs.declared.Error.{Error}
-use Rattle.refusal.specs.declared.Error.the-variants.{Eof, BadMagic, DecodingError, MalformedMetadata, MisplacedMetadata, PluralParsing, UnknownEncoding, RuleTooLong, ZeroModulus, BadRecord, IndexRoom}
+use Rattle.refusal.specs.declared.Error.the-variants.{Eof, BadMagic, DecodingError, MalformedMetadata, MisplacedMetadata, PluralParsing, UnknownEncoding, RuleTooLong, ZeroModulus, BadRecord, IndexRoom, BadSpan}
 use Rattle.refusal.specs.declared.Outcome.{Outcome}
 use Rattle.refusal.specs.declared.Outcome.the-variants.{Loaded, Refused}
 
@@ -17,6 +17,7 @@ numberOf RuleTooLong = 8
 numberOf ZeroModulus = 10
 numberOf BadRecord = 11
 numberOf IndexRoom = 12
+numberOf BadSpan = 17
 
 abbrev pub outcomeNumber : Outcome → ℕ
 outcomeNumber Loaded = 0

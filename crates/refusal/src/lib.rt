@@ -15,6 +15,7 @@ pub enum Error {
     ZeroModulus,
     BadRecord,
     IndexRoom,
+    BadSpan,
 }
 
 // How a load stands.
@@ -38,6 +39,7 @@ pub fn number_of(e: Error) -> u32
         Error::ZeroModulus => 10,
         Error::BadRecord => 11,
         Error::IndexRoom => 12,
+        Error::BadSpan => 17,
     }
 }
 

@@ -5,6 +5,8 @@ use mathlib.Core.Bool.{Bool, true, false, _&&_}
 use mathlib.Core.List.{List, [], _∷_}
 use lib.ListN.{getD, set, replicate}
 use lib.Dec.{leb, ltb, eqb}
+use Rattle.refusal.specs.Numbers.{numberOf}
+use Rattle.refusal.specs.declared.Error.the-variants as error
 use Rattle.rules.specs.declared.Value.{Value}
 use Rattle.rules.specs.declared.Value.the-variants as value
 use Rattle.rules.specs.Tree.{Tree}
@@ -54,6 +56,11 @@ answer false s = NoTree
 unfoldable pub tallyOf : Pool → ℕ → ℕ → ℕ → ℕ → Counting
 unfolding isSpan
 tallyOf P nodes root a b = answer (isTree P nodes root) (isSpan a b)
+
+abbrev pub number : Counting → ℕ
+number Counted = 0
+number BadSpan = numberOf error.BadSpan
+number NoTree = numberOf error.BadRecord
 
 -- a refusal leaves no figures
 abbrev pub figuresIn : Counting → Tree → ℕ → ℕ → List ℕ

@@ -1,11 +1,12 @@
 // Which forms a rule names over a span of counts, and how often.
+use refusal::Error;
 use rules::Value;
 ghost use mathlib.Core.Path.{_≡_};
 ghost use Prim.Native.Nat.{_<_, _≤_, _+_, _^_};
 ghost use lib.ListN.{getD};
 ghost use Rattle.rules.specs.Pool.{pool, treeOf};
 ghost use Rattle.rules.specs.Sound.{Sound};
-ghost use Rattle.rules_span.specs.Span.{lineOf, bump, tallied, noFigures, tallyOf, figuresOf};
+ghost use Rattle.rules_span.specs.Span.{lineOf, bump, tallied, noFigures, tallyOf, figuresOf, number};
 
 // The figures of forms 0 to 15, then of those above, then of the counts that meet a zero divisor.
 pub const LINES: usize = 18;
@@ -54,6 +55,17 @@ fn count<'a>(
         let value = rules_value::value_at(codes, places, values, root, a + k);
         count_one(figures, line_of(value));
         k += 1;
+    }
+}
+
+// Its number.
+pub fn number_of(counting: Counting) -> u32
+    ensures { λ r. ⌜ r ≡ number counting ⌝ }
+{
+    match counting {
+        Counting::Counted => 0,
+        Counting::BadSpan => refusal::number_of(Error::BadSpan),
+        Counting::NoTree => refusal::number_of(Error::BadRecord),
     }
 }
 

@@ -3,6 +3,7 @@
 use crate::{ffi, Bytes, Error, Live, ParseOptions, Scan, Search, Status};
 use std::fmt;
 use std::io::Read;
+use std::ops::RangeInclusive;
 
 /// Which text answers a lookup.
 #[derive(Clone, Copy, Debug, PartialEq, Eq, Hash)]
@@ -380,6 +381,22 @@ impl<B: Bytes, S: Search> Catalog<B, S> {
         (form.number == 0).then_some(form.form)
     }
 
+    /// How often each form of the plural rule occurs for the counts of a span, of at most 1,000,000 counts.
+    ///
+    /// # Errors
+    ///
+    /// [`Error::BadSpan`] exactly if the span ends before it begins or has more counts.
+    pub fn forms_over(&self, counts: RangeInclusive<u64>) -> Result<Forms, Error> {
+        let mut figures = [0; 18];
+        Error::of(ffi::span(
+            &self.record,
+            *counts.start(),
+            *counts.end(),
+            &mut figures,
+        ))?;
+        Ok(Forms(figures))
+    }
+
     // The file's part that an answer names, which lies in the file: `answer-inside`, `plural-inside` and `slots-inside`,
     // crates/gettext_c/proofs/Right.antt.
     fn segment<'c, 't>(&'c self, answer: ffi::Answer) -> &'t [u8]
@@ -426,5 +443,39 @@ impl<B: Bytes, S: Search> Catalog<B, S> {
             1 => id,
             _ => plural_id,
         }
+    }
+}
+
+/// How often each form of a rule occurs over a span of counts: [`Catalog::forms_over`]. The figures add up to the number of counts. `Display` has
+/// a line for each, as the program `forms` prints them.
+#[derive(Clone, Copy, Debug, PartialEq, Eq)]
+pub struct Forms([u64; 18]);
+
+impl Forms {
+    /// How many counts fall on a form, which is 0 to 15; `None` for any other form, see [`Forms::above`].
+    #[must_use]
+    pub fn of(&self, form: usize) -> Option<u64> {
+        self.0[..16].get(form).copied()
+    }
+
+    /// How many fall on forms above 15.
+    #[must_use]
+    pub fn above(&self) -> u64 {
+        self.0[16]
+    }
+
+    /// How many meet a zero divisor.
+    #[must_use]
+    pub fn zero(&self) -> u64 {
+        self.0[17]
+    }
+}
+
+impl fmt::Display for Forms {
+    fn fmt(&self, f: &mut fmt::Formatter<'_>) -> fmt::Result {
+        for (form, many) in self.0[..16].iter().enumerate() {
+            writeln!(f, "{form} {many}")?;
+        }
+        write!(f, "above {}\nzero {}", self.above(), self.zero())
     }
 }

@@ -26,6 +26,8 @@ pub enum Error {
     RuleTooLong,
     /// Fewer slots are lent than the index uses, see [`Catalog::slots`](crate::Catalog::slots).
     IndexRoom,
+    /// A span of counts that ends before it begins, or has over 1,000,000 counts.
+    BadSpan,
     /// The file could not be read. The library does not read files: it is [`ParseOptions::parse`](crate::ParseOptions::parse) that met it.
     Io(io::Error),
     /// The load would cost more than the limit, see [`ParseOptions::max_cost`](crate::ParseOptions::max_cost). The file was not looked at.
@@ -53,6 +55,7 @@ impl Error {
             Error::UnknownEncoding => Some(7),
             Error::RuleTooLong => Some(8),
             Error::IndexRoom => Some(12),
+            Error::BadSpan => Some(17),
             Error::Unknown(number) => Some(*number),
             Error::Io(_) | Error::TooCostly { .. } => None,
         }
@@ -71,6 +74,7 @@ impl Error {
             7 => Error::UnknownEncoding,
             8 => Error::RuleTooLong,
             12 => Error::IndexRoom,
+            17 => Error::BadSpan,
             _ => Error::Unknown(number),
         })
     }
@@ -88,6 +92,7 @@ impl fmt::Display for Error {
             Error::UnknownEncoding => "unknown encoding specified",
             Error::RuleTooLong => "plural expression over 512 bytes",
             Error::IndexRoom => "too few slots for the index",
+            Error::BadSpan => "no span of at most 1000000 counts",
             Error::Io(error) => return error.fmt(f),
             Error::TooCostly { cost, limit } => {
                 return write!(f, "the load costs {cost}, and {limit} is the limit")

@@ -221,6 +221,15 @@ extern "C" {
         values: *const [u64; 512],
         n: u64,
     ) -> Form;
+    fn gettext_c_span(
+        head: *const Head,
+        codes: *const [u8; 512],
+        places: *const [u16; 1024],
+        values: *const [u64; 512],
+        a: u64,
+        b: u64,
+        figures: *mut [u64; 18],
+    ) -> u32;
     fn gettext_c_is_utf8(text: *const u8, text_len: usize) -> u32;
     fn gettext_c_cost(file: *const u8, file_len: usize) -> u64;
 }
@@ -449,6 +458,11 @@ pub fn fits(r: &Record, k: u64) -> Fits {
 pub fn resolve(r: &Record, n: u64) -> Form {
     // SAFETY: the record's arrays live for the call and are only read.
     unsafe { gettext_c_resolve(&r.head, &r.codes, &r.places, &r.values, n) }
+}
+
+pub fn span(r: &Record, a: u64, b: u64, figures: &mut [u64; 18]) -> u32 {
+    // SAFETY: the record's arrays live for the call and are only read; the figures live for the call, which writes them.
+    unsafe { gettext_c_span(&r.head, &r.codes, &r.places, &r.values, a, b, figures) }
 }
 
 pub fn is_utf8(text: &[u8]) -> bool {

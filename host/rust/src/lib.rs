@@ -47,7 +47,7 @@ mod index;
 mod options;
 
 pub use bytes::{Bytes, Live};
-pub use catalog::{Answer, Catalog, Which};
+pub use catalog::{Answer, Catalog, Forms, Which};
 pub use error::{Error, Status};
 pub use index::{Scan, Search};
 pub use options::{ParseOptions, Reading};

@@ -757,3 +757,34 @@ fn an_indexed_catalog_is_data() {
     let text = Catalog::parse_slice(&file).unwrap().indexed().gettext("a");
     assert_eq!(text.as_ptr(), &file[46]);
 }
+
+#[test]
+fn forms_over_a_span() {
+    let file = g();
+    let with = |rule: &str| {
+        ParseOptions::new()
+            .reading(Reading::Standard)
+            .force_plural(rule)
+            .parse_slice(&file)
+            .unwrap()
+    };
+    let thirds = with("n%3").forms_over(0..=9).unwrap();
+    assert_eq!(
+        [0, 1, 2, 3, 16].map(|f| thirds.of(f)),
+        [Some(4), Some(3), Some(3), Some(0), None]
+    );
+    assert!(thirds.to_string().starts_with("0 4\n1 3\n2 3\n3 0\n"));
+    assert!(thirds.to_string().ends_with("15 0\nabove 0\nzero 0"));
+    let halves = with("40/(n%2)").forms_over(0..=4).unwrap();
+    assert_eq!((halves.above(), halves.zero()), (2, 3));
+    let last = with("n").forms_over(u64::MAX..=u64::MAX).unwrap();
+    assert_eq!(last.above(), 1);
+    assert_eq!(with("n").forms_over(0..=999_999).unwrap().above(), 999_984);
+    #[allow(clippy::reversed_empty_ranges)]
+    let backwards = with("n").forms_over(1..=0);
+    assert!(matches!(backwards, Err(Error::BadSpan)));
+    assert!(matches!(
+        with("n").forms_over(0..=1_000_000),
+        Err(Error::BadSpan)
+    ));
+}
