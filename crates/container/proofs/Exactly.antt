@@ -268,16 +268,16 @@ module _ (o : Options) (f s : List ℕ) (t : Tables) (r : Tree) where
       forced-is = unforced q;
       if-none = λ c. absurd (omega (arith, x .some));
       if-some = by-first
-      (λ k z. ap (λ (b : List ℕ). header o b defaultTree) (same-header s t z x) ∙ given-on o h defaultTree y q refl ∙ p)
-      (λ l n. absurd (not-header x l n));
+          (λ k z. ap (λ (b : List ℕ). header o b defaultTree) (same-header s t z x) ∙ given-on o h defaultTree y q refl ∙ p)
+          (λ l n. absurd (not-header x l n));
     }
     begins (absent q {h = h} x y p) = record {
       from = defaultTree;
       forced-is = unforced q;
       if-none = λ c. absurd (omega (arith, x .some));
       if-some = by-first
-      (λ k z. ap (λ (b : List ℕ). header o b defaultTree) (same-header s t z x) ∙ given-on o h defaultTree y q refl ∙ ap rule (sym p))
-      (λ l n. absurd (not-header x l n));
+          (λ k z. ap (λ (b : List ℕ). header o b defaultTree) (same-header s t z x) ∙ given-on o h defaultTree y q refl ∙ ap rule (sym p))
+          (λ l n. absurd (not-header x l n));
     }
     begins (headless q n p) = record {
       from = defaultTree;

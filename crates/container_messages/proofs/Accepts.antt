@@ -100,8 +100,8 @@ module _ (s : List ℕ) (t : Tables) (i : ℕ) where
         size = m;
         translation-in = f;
         segments-right =
-        by-test (every utf8 (segments s b m) ≡ true) (every utf8 (segments s b m)) (λ g. g)
-        (λ g. absurd (kept-translation s (stretch.At b m) (originalOf i (original s a l)) n DecodingError (left (translation.At b m) (translation.Refused DecodingError) g)));
+            by-test (every utf8 (segments s b m) ≡ true) (every utf8 (segments s b m)) (λ g. g)
+            (λ g. absurd (kept-translation s (stretch.At b m) (originalOf i (original s a l)) n DecodingError (left (translation.At b m) (translation.Refused DecodingError) g)));
       }
 
   pub read-good : ((x : Error) → readAt s t i ≡ read.Refused x → ⊥) → Good s t i

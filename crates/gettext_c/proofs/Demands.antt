@@ -154,9 +154,9 @@ module _ (o : Options) (f s : List ℕ) {Q : Pool} {r : Loaded} (loads : Loads (
           below = omega (arith, v .high);
         };
         answers = λ key i start len w m.
-        let a = rated-lookup s (tablesIn (r .head)) Q (nodesIn (r .head)) (rootIn (r .head)) key lo hi k n is below count (fresh-length o f s loads number-0)
-        (last-hit s (tablesIn (r .head)) key w) m in
-        named (v .is) a;
+            let a = rated-lookup s (tablesIn (r .head)) Q (nodesIn (r .head)) (rootIn (r .head)) key lo hi k n is below count (fresh-length o f s loads number-0)
+            (last-hit s (tablesIn (r .head)) key w) m in
+            named (v .is) a;
       }
     where
       same-form : {x y : ℕ} {u : Resolved} → u ≡ resolved.Form x → u ≡ resolved.Form y → y ≡ x

@@ -26,14 +26,7 @@ pub fn report(file: &[u8]) -> Said
     let mut codes = [0u8; 512];
     let mut places = [0u16; 1024];
     let mut values = [0u64; 512];
-    let loading = container::load_into(
-        file,
-        file,
-        options,
-        &mut codes,
-        &mut places,
-        &mut values,
-    );
+    let loading = container::load_into(file, file, options, &mut codes, &mut places, &mut values);
     let outcome = loading.outcome;
     match outcome {
         Outcome::Loaded => {

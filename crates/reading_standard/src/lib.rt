@@ -109,7 +109,16 @@ fn read_more(
             let Part::Got(w, q) = last else {
                 return Part::Bad;
             };
-            put(codes, places, values, w, node::TERNARY, below(m), below(v), 0);
+            put(
+                codes,
+                places,
+                values,
+                w,
+                node::TERNARY,
+                below(m),
+                below(v),
+                0,
+            );
             Part::Got(w + 1, q)
         }
         Next::End => Part::Got(m, at),

@@ -146,6 +146,6 @@ module _ (t : Tree) (few : size t ≤ 512) where
       rw (← as-kept t 0 blank, ← as-many t) record {
         sound = sound (keep (spread t) 0 blank) (nodes (spread t)) (nodes (spread t) - 1) (kept-is-tree (spread t) (fits t) (rw (as-many t) few));
         codes = λ q h.
-          keep-plain (spread t) 0 blank (less (0 + nodes (spread t)) (omega (arith, as-many t)) long-blank) (written t) (λ i j. absurd (omega arith)) q
-          (omega (arith, nodes-pos (spread t)));
+            keep-plain (spread t) 0 blank (less (0 + nodes (spread t)) (omega (arith, as-many t)) long-blank) (written t) (λ i j. absurd (omega arith)) q
+            (omega (arith, nodes-pos (spread t)));
       }

@@ -106,7 +106,16 @@ pub fn put_default(
     *codes = [0u8; 512];
     *places = [0u16; 1024];
     *values = [0u64; 512];
-    put(codes, places, values, 0, node::N_OP + node::NOT_EQUAL, 0, 0, 1);
+    put(
+        codes,
+        places,
+        values,
+        0,
+        node::N_OP + node::NOT_EQUAL,
+        0,
+        0,
+        1,
+    );
     1
 }
 

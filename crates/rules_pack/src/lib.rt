@@ -114,7 +114,16 @@ fn nodes<'a>(
         let Number::Is(v) = number else {
             let l = nodes(codes, places, values, second, heads, fields, ints, m);
             let n = nodes(codes, places, values, at - 1, heads, fields, ints, l);
-            put(heads, fields, ints, n, node::TERNARY, before(m), before(l), 0);
+            put(
+                heads,
+                fields,
+                ints,
+                n,
+                node::TERNARY,
+                before(m),
+                before(l),
+                0,
+            );
             return n + 1;
         };
         let small = small_of(codes, values, at - 1);
