@@ -29,10 +29,10 @@ pub const CHOICE: u8 = 96;
 // x ? y : b
 pub const TERNARY: u8 = 112;
 
-// How many codes of each group there are.
-pub const ROWS: [u8; 8] = [2, 13, 13, 2, 13, 13, 1, 1];
+// How many binary operators there are, and so codes of each group of theirs.
+pub const OPERATORS: u8 = 13;
 
-// The numbers of the binary operators, with the names of the Rust's `Operator`. `operators` of specs/Operator.antt has them in this order.
+// Their numbers, with the names of the Rust's `Operator`. `operators` of specs/Operator.antt has them in this order.
 pub const EQUAL: u8 = 0;
 
 pub const NOT_EQUAL: u8 = 1;

@@ -4,11 +4,11 @@ use mathlib.Core.Path.{_≡_, refl, sym, ap, _∙_}
 use mathlib.Core.Bool.{Bool, true, false, not, _&&_, and-false}
 use mathlib.Core.List.{List, [], _∷_, _++_}
 use mathlib.Core.Logic.{_⊎_, inl, inr, ⊎-elim}
-use Prim.Native.Nat.{ℕ, zero, suc, _+_, _-_, _<_, _≤_, _%_, _/_}
+use Prim.Native.Nat.{ℕ, zero, suc, _+_, _-_, _<_, _≤_}
 use native.Mathlib.Omega.{arith}
 use native.Mathlib.Nat.{eq-or-lt-of-le, le-of-suc-le-suc}
 use native.Mathlib.Numerals.{add-one}
-use lib.ListN.{length, getD, set, replicate, length-set, length-replicate, getD-replicate, List·getD-eq-default}
+use lib.ListN.{length, getD, set, replicate, length-set, length-replicate, getD-replicate}
 use lib.Seq.{getD-set-same, getD-set-other}
 use lib.Dec.{leb, ltb, eqb}
 use borrow.Author.Tests.{lt-ltb, le-ltb, le-leb, lt-leb, leb-true, leb-false, ltb-true, eqb-true, eqb-false, eq-eqb, ne-eqb, not-false}
@@ -17,11 +17,17 @@ use Rattle.rules_tree.specs.Marks.{Unmarked, Marked, Took, Placed, Passe
 use Rattle.rules.proofs.Operators.{never}
 use Rattle.rules.proofs.Trees.{both-left, both-right, member-head, member-tail}
 
-pub past-groups : (c : ℕ) → 128 ≤ c → known c ≡ false
-past-groups c h = rw (known, List·getD-eq-default {A = ℕ} rows 0 (past c h)) (le-ltb (c % 16) 0 (omega arith))
-  where
-    past : (c : ℕ) → 128 ≤ c → length rows ≤ c / 16
-    past c h = omega arith
+-- past the eighth group no code is listed
+pub past-groups : (g : ℕ) → (g ≡ 0 → ⊥) → (g ≡ 1 → ⊥) → (g ≡ 2 → ⊥) → (g ≡ 3 → ⊥) → (g ≡ 4 → ⊥) → (g ≡ 5 → ⊥) → (g ≡ 6 → ⊥) → (g ≡ 7 → ⊥) → getD rows g 0 ≡ 0
+past-groups zero h0 h1 h2 h3 h4 h5 h6 h7 = absurd (h0 refl)
+past-groups (suc zero) h0 h1 h2 h3 h4 h5 h6 h7 = absurd (h1 refl)
+past-groups (suc (suc zero)) h0 h1 h2 h3 h4 h5 h6 h7 = absurd (h2 refl)
+past-groups (suc (suc (suc zero))) h0 h1 h2 h3 h4 h5 h6 h7 = absurd (h3 refl)
+past-groups (suc (suc (suc (suc zero)))) h0 h1 h2 h3 h4 h5 h6 h7 = absurd (h4 refl)
+past-groups (suc (suc (suc (suc (suc zero))))) h0 h1 h2 h3 h4 h5 h6 h7 = absurd (h5 refl)
+past-groups (suc (suc (suc (suc (suc (suc zero)))))) h0 h1 h2 h3 h4 h5 h6 h7 = absurd (h6 refl)
+past-groups (suc (suc (suc (suc (suc (suc (suc zero))))))) h0 h1 h2 h3 h4 h5 h6 h7 = absurd (h7 refl)
+past-groups (suc (suc (suc (suc (suc (suc (suc (suc g)))))))) h0 h1 h2 h3 h4 h5 h6 h7 = refl
 
 -- the answers of the test of one operand
 module _ {q x p : ℕ} (m : List ℕ) (e : q ≡ x) where

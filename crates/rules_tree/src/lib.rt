@@ -7,21 +7,34 @@ ghost use mathlib.Core.Bool.{true};
 ghost use mathlib.Core.List.{[]};
 ghost use Prim.Native.Nat.{_+_, _<_, _≤_, _*_};
 ghost use lib.ListN.{length, getD};
-ghost use Rattle.rules.specs.Pool.{pool, known, used, shaped, isTree};
+ghost use Rattle.rules.specs.Pool.{pool, rows, known, used, shaped, isTree};
 ghost use Rattle.rules_tree.specs.Marks.{Unmarked, Marked, Took, Placed, Passes};
 
 // Most rules have no more nodes, and so many marks are cleared at once.
 const FEW: usize = 64;
 
+// How many codes of a group of 16 are listed.
+fn rows_of(group: u8) -> u8
+    ensures { λ r. ⌜ r ≡ getD rows group 0 ⌝ }
+{
+    match group {
+        0 => 2,
+        1 => node::OPERATORS,
+        2 => node::OPERATORS,
+        3 => 2,
+        4 => node::OPERATORS,
+        5 => node::OPERATORS,
+        6 => 1,
+        7 => 1,
+        _ => 0,
+    }
+}
+
 // Whether a code is listed: its row is one of its group's.
 fn is_known(code: u8) -> bool
     ensures { λ r. ⌜ r ≡ known code ⌝ }
 {
-    if 128 <= code {
-        return false;
-    }
-    let rows = node::ROWS;
-    code % 16 < rows[(code / 16) as usize]
+    code % 16 < rows_of(code / 16)
 }
 
 // Whether the operand that field j of the node at p names lies below it and is no operand yet; it is marked as one then.
