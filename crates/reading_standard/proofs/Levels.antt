@@ -10,7 +10,7 @@ use lib.Dec.{eqb}
 use borrow.Author.Tests.{eq-eqb, ne-eqb}
 use Rattle.rules.specs.Tree.{Tree, bin, cond, Op}
 use Rattle.rules.specs.Pool.{Pool}
-use Rattle.rules.specs.Store.{size, store, push, opCode}
+use Rattle.rules.specs.Store.{size, store, push, nodeCode}
 use Rattle.reading_grammar.specs.Grammar.{Token, sign, number, mark, rank, loosest, full}
 use Rattle.reading_grammar.specs.Tokens.{tokens}
 use Rattle.reading_grammar.specs.Reading.{got, andThen, past, Level, More}
@@ -35,24 +35,24 @@ module _ {s : List ℕ} {l at k : ℕ} {P Q : Pool} where
       record { read = rw (e, level-suc j (tokens (drop at s)), g .is) (v .read (g .t) at k P (stands g)) }
 
 -- two trees, or three, that stand after one another, and the node over them
-joined : (op : Op) (at e h k m w q c x y : ℕ) (t u : Tree) (O P R S : Pool) → Before t h at k m O P → at < e → w ≡ m + size u → R ≡ store u m P → e + size u ≤ q
-    → opCode op ≡ c → x ≡ m - 1 → y ≡ w - 1 → S ≡ push R w c x y 0 0 → Before (bin op t u) h q k (w + 1) O S
+joined : (op : Op) (at e h k m w q c x : ℕ) (t u : Tree) (O P R S : Pool) → Before t h at k m O P → at < e → w ≡ m + size u → R ≡ store u m P → e + size u ≤ q
+    → nodeCode op ≡ c → x ≡ m - 1 → S ≡ push R w c x 0 0 → Before (bin op t u) h q k (w + 1) O S
 unfolding size store
-joined op at e h k m w q c x y t u O P R S d f ew st g ec ex ey p = record {
+joined op at e h k m w q c x t u O P R S d f ew st g ec ex p = record {
   free = omega (arith, d .free);
-  stored = p ∙ rw (ex, ey, ← ec, ew, st, d .free, d .stored);
+  stored = p ∙ rw (ex, ← ec, ew, st, d .free, d .stored);
   further = omega (arith, d .further);
 }
 
-chosen : (at e i p h k m v w q x y z : ℕ) (s : List ℕ) (t u n : Tree) (O P R S Q : Pool) → Before t h at k m O P → at < e → v ≡ m + size u → R ≡ store u m P → e + size u ≤ i → i < p
-    → w ≡ v + size n → S ≡ store n v R → p + size n ≤ q → q ≤ length s → x ≡ m - 1 → y ≡ v - 1 → z ≡ w - 1 → Q ≡ push S w 3 x y z 0
+chosen : (at e i p h k m v w q x y : ℕ) (s : List ℕ) (t u n : Tree) (O P R S Q : Pool) → Before t h at k m O P → at < e → v ≡ m + size u → R ≡ store u m P → e + size u ≤ i → i < p
+    → w ≡ v + size n → S ≡ store n v R → p + size n ≤ q → q ≤ length s → x ≡ m - 1 → y ≡ v - 1 → Q ≡ push S w 112 x y 0
     → Done (cond t u n) (tokens (drop q s)) s h k O Q (Got (w + 1) q)
 unfolding size store
-chosen at e i p h k m v w q x y z s t u n O P R S Q d f ev sr g j ew ss b l ex ey ez a = record {
+chosen at e i p h k m v w q x y s t u n O P R S Q d f ev sr g j ew ss b l ex ey a = record {
   next = q;
   answer = ap (λ (o : ℕ). Got o q) (omega (arith, d .free));
   rest = refl;
-  stored = a ∙ rw (ex, ey, ez, ew, ss, ev, sr, d .free, d .stored);
+  stored = a ∙ rw (ex, ey, ew, ss, ev, sr, d .free, d .stored);
   further = omega (arith, d .further);
   within = l;
 }
@@ -93,13 +93,13 @@ module _ {s : List ℕ} {j at m : ℕ} {P : Pool} where
   pub more-bad : {op : Op} {e : ℕ} {R Q : Pool} → Step s at (sign op) e → rank op ≡ suc j → LevelWrote j s e m P R Bad → MoreWrote j s at m P Q Bad
   more-bad {op} {e} w i v = record { read = λ t h k O b. rw (w .is, more-sign j t op (tokens (drop e s)), eq-eqb _ _ i, level-refused v) refl }
 
-  pub more-more : {op : Op} {e q n c x y : ℕ} {R S Q : Pool} {z : Part} → Step s at (sign op) e → rank op ≡ suc j → opCode op ≡ c → LevelWrote j s e m P R (Got n q)
-      → x ≡ m - 1 → y ≡ n - 1 → S ≡ push R n c x y 0 0 → MoreWrote j s q (n + 1) S Q z → MoreWrote j s at m P Q z
-  more-more {op} {e} {q} {n} {c} {x} {y} {R} {S} {Q} {z} w i ec v ex ey p a =
+  pub more-more : {op : Op} {e q n c x : ℕ} {R S Q : Pool} {z : Part} → Step s at (sign op) e → rank op ≡ suc j → nodeCode op ≡ c → LevelWrote j s e m P R (Got n q)
+      → x ≡ m - 1 → S ≡ push R n c x 0 0 → MoreWrote j s q (n + 1) S Q z → MoreWrote j s at m P Q z
+  more-more {op} {e} {q} {n} {c} {x} {R} {S} {Q} {z} w i ec v ex p a =
       let g = level-taken v in
       record {
         read = λ t h k O b. rw (w .is, more-sign j t op (tokens (drop e s)), eq-eqb _ _ i, g .is)
-            (a .read (bin op t (g .t)) h k O (joined op at e h k m n q c x y t (g .t) O P R S b (w .further) (g .free) (g .stored) (g .further) ec ex ey p));
+            (a .read (bin op t (g .t)) h k O (joined op at e h k m n q c x t (g .t) O P R S b (w .further) (g .free) (g .stored) (g .further) ec ex p));
       }
 
   -- the condition
@@ -117,13 +117,13 @@ module _ {s : List ℕ} {j at m : ℕ} {P : Pool} where
       let g = level-taken a in
       record { read = λ t h k O d. rw (w .is, asks t (tokens (drop e s)) z f, g .is, c .is, level-refused l) refl }
 
-  pub ask-ask : {b e v i p n q x y z : ℕ} {R S Q : Pool} → Step s at (mark b) e → b ≡ 63 → j ≡ loosest → LevelWrote full s e m P R (Got v i) → Step s i (mark 58) p
-      → LevelWrote full s p v R S (Got n q) → x ≡ m - 1 → y ≡ v - 1 → z ≡ n - 1 → Q ≡ push S n 3 x y z 0 → MoreWrote j s at m P Q (Got (n + 1) q)
-  ask-ask {b} {e} {v} {i} {p} {n} {q} {x} {y} {z} {R} {S} {Q} w o f a c l ex ey ez u =
+  pub ask-ask : {b e v i p n q x y : ℕ} {R S Q : Pool} → Step s at (mark b) e → b ≡ 63 → j ≡ loosest → LevelWrote full s e m P R (Got v i) → Step s i (mark 58) p
+      → LevelWrote full s p v R S (Got n q) → x ≡ m - 1 → y ≡ v - 1 → Q ≡ push S n 112 x y 0 → MoreWrote j s at m P Q (Got (n + 1) q)
+  ask-ask {b} {e} {v} {i} {p} {n} {q} {x} {y} {R} {S} {Q} w o f a c l ex ey u =
       let g = level-taken a in
       let r = level-taken l in
       record {
         read = λ t h k O d. rw (w .is, asks t (tokens (drop e s)) o f, g .is, c .is, r .is)
-            (chosen at e i p h k m v n q x y z s t (g .t) (r .t) O P R S Q d (w .further) (g .free) (g .stored) (g .further) (c .further)
-            (r .free) (r .stored) (r .further) (r .within) ex ey ez u);
+            (chosen at e i p h k m v n q x y s t (g .t) (r .t) O P R S Q d (w .further) (g .free) (g .stored) (g .further) (c .further)
+            (r .free) (r .stored) (r .further) (r .within) ex ey u);
       }

@@ -21,14 +21,14 @@ use Rattle.reading_grammar.proofs.Choice.{left-if}
 other : (b : ℕ) (r : List Token) → (b ≡ 110 → ⊥) → (b ≡ 33 → ⊥) → (b ≡ 40 → ⊥) → Prefix (mark b ∷ r) ≡ bad
 other b r i j k = prefix-mark b r ∙ (left-if _ _ (ne-eqb b 110 i) ∙ (left-if _ _ (ne-eqb b 33 j) ∙ left-if _ _ (ne-eqb b 40 k)))
 
-negated : (at e k m q x : ℕ) (s : List ℕ) (t : Tree) (P R Q : Pool) → at < e → m ≡ k + size t → R ≡ store t k P → e + size t ≤ q → q ≤ length s
-    → x ≡ m - 1 → Q ≡ push R m 2 x 0 0 0 → Done (nay t) (tokens (drop q s)) s at k P Q (Got (m + 1) q)
+negated : (at e k m q : ℕ) (s : List ℕ) (t : Tree) (P R Q : Pool) → at < e → m ≡ k + size t → R ≡ store t k P → e + size t ≤ q → q ≤ length s
+    → Q ≡ push R m 48 0 0 0 → Done (nay t) (tokens (drop q s)) s at k P Q (Got (m + 1) q)
 unfolding size store
-negated at e k m q x s t P R Q f em st g l ex p = record {
+negated at e k m q s t P R Q f em st g l p = record {
   next = q;
   answer = ap (λ (o : ℕ). Got o q) (omega arith);
   rest = refl;
-  stored = p ∙ rw (ex, em, st);
+  stored = p ∙ rw (em, st);
   further = omega arith;
   within = l;
 }
@@ -43,14 +43,14 @@ module _ {s : List ℕ} {at k : ℕ} {P Q : Pool} where
   pub prefix-huge : HugeAt s at → PrefixWrote s at k P Q Bad
   prefix-huge w = record { read = rw (w .is, prefix-number (w .v) (w .rest), le-ltb _ _ (w .big)) refl }
 
-  pub prefix-num : {v e : ℕ} → Step s at (number v) e → v < 2 ^ 64 → Q ≡ push P k 1 0 0 0 v → PrefixWrote s at k P Q (Got (k + 1) e)
+  pub prefix-num : {v e : ℕ} → Step s at (number v) e → v < 2 ^ 64 → Q ≡ push P k 1 0 0 v → PrefixWrote s at k P Q (Got (k + 1) e)
   unfolding size store
   prefix-num {v} {e} w h p = record {
     read = rw (w .is, prefix-number v (tokens (drop e s)), lt-ltb _ _ h)
         (record { next = e; answer = refl; rest = refl; stored = p; further = omega (arith, w .further); within = w .within });
   }
 
-  pub prefix-n : {b e : ℕ} → Step s at (mark b) e → b ≡ 110 → Q ≡ push P k 0 0 0 0 0 → PrefixWrote s at k P Q (Got (k + 1) e)
+  pub prefix-n : {b e : ℕ} → Step s at (mark b) e → b ≡ 110 → Q ≡ push P k 0 0 0 0 → PrefixWrote s at k P Q (Got (k + 1) e)
   unfolding size store
   prefix-n {b} {e} w i p = record {
     read = rw (w .is, i, prefix-mark 110 (tokens (drop e s)))
@@ -60,13 +60,13 @@ module _ {s : List ℕ} {at k : ℕ} {P Q : Pool} where
   pub not-bad : {b e : ℕ} {R : Pool} → Step s at (mark b) e → b ≡ 33 → LevelWrote 0 s e k P R Bad → PrefixWrote s at k P Q Bad
   not-bad {b} {e} w i v = record { read = rw (w .is, i, prefix-mark 33 (tokens (drop e s)), ← level-zero (tokens (drop e s)), level-refused v) refl }
 
-  pub not-not : {b e m q x : ℕ} {R : Pool} → Step s at (mark b) e → b ≡ 33 → LevelWrote 0 s e k P R (Got m q) → x ≡ m - 1 → Q ≡ push R m 2 x 0 0 0
+  pub not-not : {b e m q : ℕ} {R : Pool} → Step s at (mark b) e → b ≡ 33 → LevelWrote 0 s e k P R (Got m q) → Q ≡ push R m 48 0 0 0
       → PrefixWrote s at k P Q (Got (m + 1) q)
-  not-not {b} {e} {m} {q} {x} {R} w i v ex p =
+  not-not {b} {e} {m} {q} {R} w i v p =
       let g = level-taken v in
       record {
         read = rw (w .is, i, prefix-mark 33 (tokens (drop e s)), ← level-zero (tokens (drop e s)), g .is)
-            (negated at e k m q x s (g .t) P R Q (w .further) (g .free) (g .stored) (g .further) (g .within) ex p);
+            (negated at e k m q s (g .t) P R Q (w .further) (g .free) (g .stored) (g .further) (g .within) p);
       }
 
   pub prefix-other : {b e : ℕ} → Step s at (mark b) e → (b ≡ 110 → ⊥) → (b ≡ 33 → ⊥) → (b ≡ 40 → ⊥) → PrefixWrote s at k P Q Bad

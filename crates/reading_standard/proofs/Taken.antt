@@ -7,7 +7,7 @@ use lib.ListN.{length, drop}
 use Rattle.rules.specs.Tree.{Tree}
 use Rattle.rules.specs.Pool.{Pool}
 use Rattle.rules.specs.Store.{size, store}
-use Rattle.rules.proofs.Stored.{size-pos}
+use Rattle.rules.proofs.Unfolded.{size-pos}
 use Rattle.reading_grammar.specs.Tokens.{tokens}
 use Rattle.reading_grammar.specs.Reading.{Outcome, got, bad, Level}
 use Rattle.reading_standard.specs.declared.Part.{Part}

@@ -6,6 +6,7 @@ use reading_tokens::past;
 use reading_tokens::rank_of;
 use reading_tokens::token_at;
 use rules::Nodes;
+use rules::node;
 use rules::put;
 ghost use mathlib.Core.Path.{_≡_};
 ghost use Prim.Native.Nat.{_<_, _≤_, _-_};
@@ -39,7 +40,7 @@ fn below(k: usize) -> u16
 fn read_level(
     s: &[u8],
     codes: &mut [u8; 512],
-    places: &mut [u16; 1536],
+    places: &mut [u16; 1024],
     values: &mut [u64; 512],
     l: u8,
     at: usize,
@@ -65,7 +66,7 @@ fn read_level(
 fn read_more(
     s: &[u8],
     codes: &mut [u8; 512],
-    places: &mut [u16; 1536],
+    places: &mut [u16; 1024],
     values: &mut [u64; 512],
     j: u8,
     at: usize,
@@ -86,7 +87,7 @@ fn read_more(
             let Part::Got(w, q) = right else {
                 return Part::Bad;
             };
-            put(codes, places, values, w, c, below(m), below(w), 0, 0);
+            put(codes, places, values, w, c, below(m), 0, 0);
             read_more(s, codes, places, values, j, q, w + 1)
         }
         Next::Mark(b, e) => {
@@ -108,7 +109,7 @@ fn read_more(
             let Part::Got(w, q) = last else {
                 return Part::Bad;
             };
-            put(codes, places, values, w, 3, below(m), below(v), below(w), 0);
+            put(codes, places, values, w, node::TERNARY, below(m), below(v), 0);
             Part::Got(w + 1, q)
         }
         Next::End => Part::Got(m, at),
@@ -120,7 +121,7 @@ fn read_more(
 fn read_prefix(
     s: &[u8],
     codes: &mut [u8; 512],
-    places: &mut [u16; 1536],
+    places: &mut [u16; 1024],
     values: &mut [u64; 512],
     at: usize,
     k: usize,
@@ -134,7 +135,7 @@ fn read_prefix(
     match x {
         Next::Mark(b, e) => {
             if b == b'n' {
-                put(codes, places, values, k, 0, 0, 0, 0, 0);
+                put(codes, places, values, k, node::N, 0, 0, 0);
                 return Part::Got(k + 1, e);
             }
             if b == b'!' {
@@ -142,7 +143,7 @@ fn read_prefix(
                 let Part::Got(m, q) = negated else {
                     return Part::Bad;
                 };
-                put(codes, places, values, m, 2, below(m), 0, 0, 0);
+                put(codes, places, values, m, node::NOT, 0, 0, 0);
                 return Part::Got(m + 1, q);
             }
             if b != b'(' {
@@ -159,7 +160,7 @@ fn read_prefix(
             Part::Got(m, p)
         }
         Next::Number(v, e) => {
-            put(codes, places, values, k, 1, 0, 0, 0, v);
+            put(codes, places, values, k, node::INTEGER, 0, 0, v);
             Part::Got(k + 1, e)
         }
         Next::Sign(c, e) => Part::Bad,
@@ -172,7 +173,7 @@ fn read_prefix(
 pub fn standard(
     s: &[u8],
     codes: &mut [u8; 512],
-    places: &mut [u16; 1536],
+    places: &mut [u16; 1024],
     values: &mut [u64; 512],
 ) -> Nodes
     requires { ⌜ length (now s) ≤ 512 ⌝ }

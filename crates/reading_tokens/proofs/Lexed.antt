@@ -11,8 +11,7 @@ use lib.Seq.{drop-cons, drop-drop, getD-drop}
 use lib.Dec.{eqb, leb}
 use borrow.Author.Tests.{eq-eqb, ne-eqb, le-leb, lt-leb, leb-true, leb-false, lt-ltb, le-ltb}
 use Rattle.rules.specs.Tree.{Op}
-use Rattle.rules.specs.Store.{opCode}
-use Rattle.rules.proofs.Stored.{code-in}
+use Rattle.rules.specs.Store.{nodeCode}
 use Rattle.reading_grammar.specs.Grammar.{Token, sign, number, mark}
 use Rattle.reading_grammar.specs.Tokens.{tokens, lex, digits, second, digit, blank, two, findTwo, twos, findOne, ones}
 use Rattle.reading_tokens.specs.declared.Next.{Next}
@@ -221,7 +220,7 @@ lost-one [] b t = refl
 lost-one (x ∷ rs) b t = go (eqb b (x .0)) refl (lost-one rs b)
   where
     go : (y : Bool) → eqb b (x .0) ≡ y → (0 ≡ codeOf (signOf (findOne rs b)) → findOne rs b ≡ mark b) → findOne (x ∷ rs) b ≡ mark b
-    go true e k = let z : 0 ≡ opCode (x .1) = t ∙ ap (λ (u : Token). codeOf (signOf u)) (taken-if _ _ e) in absurd (omega (arith, code-in (x .1)))
+    go true e k = let z : 0 ≡ nodeCode (x .1) = t ∙ ap (λ (u : Token). codeOf (signOf u)) (taken-if _ _ e) in absurd (omega arith)
     go false e k = left-if _ _ e ∙ k (t ∙ ap (λ (u : Token). codeOf (signOf u)) (left-if _ _ e))
 
 module _ (s : List ℕ) (at : ℕ) {i : ℕ} (k : i ≡ skipped s at) where
@@ -264,7 +263,7 @@ module _ (s : List ℕ) (at : ℕ) {i : ℕ} (k : i ≡ skipped s at) where
       where
         go : (o : Option Op) → findTwo twos b c ≡ o → next s at ≡ first (findOne ones b ∷ tokens (drop (suc i) s)) (i + 1)
         go none f = let z = of-one b (drop (suc i) s) e quiet (found f) in at-byte (findOne ones b ∷ tokens (drop (suc i) s)) (i + 1) h (rw (← eb) (z .0)) (rw (← eb, z .1) refl)
-        go (some op) f = let z : 0 ≡ opCode op = t ∙ ap codeOf f in absurd (omega (arith, code-in op))
+        go (some op) f = let z : 0 ≡ nodeCode op = t ∙ ap codeOf f in absurd (omega arith)
 
     pub at-one : {w o : ℕ} → w ≡ pairFrom 0 b c → w ≡ 0 → o ≡ singleFrom 0 b → (o ≡ 0 → ⊥) → Sign o (i + 1) ≡ next s at
     unfolding singleFrom

@@ -10,8 +10,6 @@ use lib.Seq.{drop-cons, drop-drop}
 use lib.Dec.{leb, ltb, eqb}
 use borrow.Author.Tests.{leb-true, leb-false, ltb-true, ltb-false, eqb-true}
 use Rattle.rules.specs.Tree.{Tree, Op}
-use Rattle.rules.specs.Pool.{opOf}
-use Rattle.rules.proofs.Stored.{op-code, code-in}
 use Rattle.reading_grammar.specs.Grammar.{Token, sign, number, mark}
 use Rattle.reading_grammar.specs.Tokens.{tokens, digit, blank, two, findOne, ones}
 use Rattle.reading_grammar.specs.Reading.{Outcome, got, bad, past}
@@ -79,8 +77,8 @@ stepped s at x r e = go (leb (length s) (skipped s at)) refl
 
 -- what stands next, by the answer
 pub record SignAt (s : List ℕ) (at c e : ℕ) : Type 0 where
-  pub step : Step s at (sign (opOf c)) e
   pub known : Operator c
+  pub step : Step s at (sign (known .op)) e
 
 pub record NumberAt (s : List ℕ) (at v e : ℕ) : Type 0 where
   pub step : Step s at (number v) e
@@ -102,7 +100,7 @@ Nexts s at (Mark b e) = Step s at (mark b) e
 means : (s : List ℕ) (at : ℕ) (ts : List Token) → tokens (drop at s) ≡ ts → Nexts s at (first ts (after s at))
 means s at [] e = e
 means s at (sign op ∷ r) e =
-    record { step = rw (op-code op) (stepped s at (sign op) r e); known = record { low = omega (arith, code-in op); high = omega (arith, code-in op) } }
+    record { known = record { op = op; is = refl }; step = stepped s at (sign op) r e }
 means s at (number v ∷ r) e = go (ltb v (2 ^ 64)) refl
   where
     go : (y : Bool) → ltb v (2 ^ 64) ≡ y → Nexts s at (elim y [ true ↦ Number v (after s at) | false ↦ Huge ])

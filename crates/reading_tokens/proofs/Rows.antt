@@ -10,12 +10,11 @@ use native.Mathlib.Numerals.{add-one}
 use lib.ListN.{length, drop, getD, drop-of-length-le}
 use lib.Dec.{eqb, leb, ltb}
 use borrow.Author.Tests.{eq-eqb, ne-eqb, eqb-true, leb-true, ltb-true, not-true}
-use Rattle.rules.specs.Tree.{Op}
-use Rattle.rules.specs.Pool.{opOf, opAt, operators}
-use Rattle.rules.specs.Store.{opCode}
+use Rattle.rules.specs.Tree.{Op, cmp, and, or, rem, eq, ne, ge, le, gt, lt}
+use Rattle.rules.specs.Operator.{opCode}
+use Rattle.rules.specs.Store.{nodeCode}
 use Rattle.reading_grammar.specs.Grammar.{sign, rank}
 use Rattle.reading_grammar.specs.Tokens.{findTwo, twos, findOne, ones}
-use Rattle.reading_tokens.specs.Scan.{Operator}
 use Rattle.reading_tokens.specs.Promise.{codeOf, signOf, pairFrom, singleFrom}
 use Rattle.reading_tokens.proofs.Table.{every, entry}
 use Rattle.reading_grammar.proofs.Choice.{taken-if, left-if, both, all-true, last-false}
@@ -27,44 +26,49 @@ abbrev pub seconds : List ℕ
 seconds = 61 ∷ 61 ∷ 61 ∷ 61 ∷ 38 ∷ 124 ∷ []
 
 abbrev pub pairCodes : List ℕ
-pairCodes = 4 ∷ 5 ∷ 7 ∷ 6 ∷ 10 ∷ 11 ∷ []
+pairCodes = 80 ∷ 81 ∷ 83 ∷ 82 ∷ 86 ∷ 87 ∷ []
 
 abbrev pub singles : List ℕ
 singles = 37 ∷ 60 ∷ 62 ∷ []
 
 abbrev pub singleCodes : List ℕ
-singleCodes = 12 ∷ 9 ∷ 8 ∷ []
+singleCodes = 88 ∷ 85 ∷ 84 ∷ []
 
 abbrev pub ranks : List ℕ
 ranks = 3 ∷ 3 ∷ 2 ∷ 2 ∷ 2 ∷ 2 ∷ 4 ∷ 5 ∷ 1 ∷ []
 
--- ranks and codes
-pub ranked : (k : ℕ) → k < length ranks → getD ranks k 0 ≡ rank (opAt operators k)
-unfolding opAt
-ranked k h = eqb-true _ _ (entry (λ i x. eqb x (rank (opAt operators i))) ranks refl k h)
+pub ranked : (op : Op) → getD ranks (opCode op) 0 ≡ rank op
+unfolding opCode
+ranked (cmp eq) = refl
+ranked (cmp ne) = refl
+ranked (cmp ge) = refl
+ranked (cmp le) = refl
+ranked (cmp gt) = refl
+ranked (cmp lt) = refl
+ranked and = refl
+ranked or = refl
+ranked rem = refl
 
-coded : (k : ℕ) → k < length ranks → opCode (opAt operators k) ≡ k + 4
-unfolding opAt opCode
-coded k h = eqb-true _ _ (entry (λ i x. eqb (opCode (opAt operators i)) (i + 4)) ranks refl k h)
+-- the operators of the rows, whose nodes have those codes
+abbrev pairOps : List Op
+pairOps = cmp eq ∷ cmp ne ∷ cmp le ∷ cmp ge ∷ and ∷ or ∷ []
 
-pub code-of : {c : ℕ} → Operator c → opCode (opOf c) ≡ c
-unfolding opOf
-code-of {c} o = coded (c - 4) (omega arith) ∙ (omega arith)
+abbrev singleOps : List Op
+singleOps = rem ∷ cmp lt ∷ cmp gt ∷ []
 
-known : (xs : List ℕ) → every (λ i x. leb 4 x && ltb x (4 + length operators)) xs ≡ true → (i : ℕ) → i < length xs → Operator (getD xs i 0)
-known xs e i h =
-    let z = both (leb 4 (getD xs i 0)) (ltb (getD xs i 0) (4 + length operators)) (entry (λ i x. leb 4 x && ltb x (4 + length operators)) xs e i h) in
-    record { low = leb-true _ _ (z .0); high = ltb-true _ _ (z .1) }
+coded : (ops : List Op) (xs : List ℕ) → every (λ i x. eqb (nodeCode (getD ops i rem)) x) xs ≡ true → (i : ℕ) → i < length xs
+    → nodeCode (getD ops i rem) ≡ getD xs i 0
+coded ops xs e i h = eqb-true _ _ (entry (λ i x. eqb (nodeCode (getD ops i rem)) x) xs e i h)
 
 -- the operators of two bytes
-abbrev rows : List ℕ → List ℕ → List ℕ → List (ℕ × ℕ × Op)
-rows (x ∷ xs) (y ∷ ys) (z ∷ zs) = (x, y, opOf z) ∷ rows xs ys zs
+abbrev rows : List ℕ → List ℕ → List Op → List (ℕ × ℕ × Op)
+rows (x ∷ xs) (y ∷ ys) (z ∷ zs) = (x, y, z) ∷ rows xs ys zs
 rows (x ∷ xs) (y ∷ ys) [] = []
 rows (x ∷ xs) [] zs = []
 rows [] ys zs = []
 
-row : (xs ys zs : List ℕ) (i : ℕ) → i < length xs → i < length ys → i < length zs
-    → drop i (rows xs ys zs) ≡ (getD xs i 0, getD ys i 0, opOf (getD zs i 0)) ∷ drop (suc i) (rows xs ys zs)
+row : (xs ys : List ℕ) (zs : List Op) (i : ℕ) → i < length xs → i < length ys → i < length zs
+    → drop i (rows xs ys zs) ≡ (getD xs i 0, getD ys i 0, getD zs i rem) ∷ drop (suc i) (rows xs ys zs)
 row [] ys zs i h j k = absurd (omega arith)
 row (x ∷ xs) [] zs i h j k = absurd (omega arith)
 row (x ∷ xs) (y ∷ ys) [] i h j k = absurd (omega arith)
@@ -72,9 +76,8 @@ row (x ∷ xs) (y ∷ ys) (z ∷ zs) zero h j k = refl
 row (x ∷ xs) (y ∷ ys) (z ∷ zs) (suc i) h j k = row xs ys zs i (omega arith) (omega arith) (omega arith)
 
 two-row : (i b c : ℕ) → i < length firsts → findTwo (drop i twos) b c
-    ≡ elim (eqb b (getD firsts i 0) && eqb c (getD seconds i 0)) [ true ↦ some (opOf (getD pairCodes i 0)) | false ↦ findTwo (drop (suc i) twos) b c ]
-unfolding opOf opAt
-two-row i b c h = ap (λ (r : List (ℕ × ℕ × Op)). findTwo r b c) (row firsts seconds pairCodes i h h h)
+    ≡ elim (eqb b (getD firsts i 0) && eqb c (getD seconds i 0)) [ true ↦ some (getD pairOps i rem) | false ↦ findTwo (drop (suc i) twos) b c ]
+two-row i b c h = ap (λ (r : List (ℕ × ℕ × Op)). findTwo r b c) (row firsts seconds pairOps i h h h)
 
 module _ (i b c : ℕ) where
   pub pair-end : length firsts ≤ i → 0 ≡ pairFrom i b c
@@ -92,9 +95,9 @@ module _ (i b c : ℕ) where
   pair-second h n w = no-row h (last-false (eqb b (getD firsts i 0)) (ne-eqb _ _ n)) w
 
   pub pair-here : i < length firsts → b ≡ getD firsts i 0 → c ≡ getD seconds i 0 → getD pairCodes i 0 ≡ pairFrom i b c
-  unfolding pairFrom
+  unfolding pairFrom opCode
   pair-here h e f =
-      sym (ap codeOf (two-row i b c h ∙ taken-if _ _ (all-true (eq-eqb _ _ e) (eq-eqb _ _ f))) ∙ code-of (known pairCodes refl i h))
+      sym (ap codeOf (two-row i b c h ∙ taken-if _ _ (all-true (eq-eqb _ _ e) (eq-eqb _ _ f))) ∙ coded pairOps pairCodes refl i h)
 
 -- a byte that is second in no row: what stands past the end is such a one
 abbrev lacks : List (ℕ × ℕ × Op) → ℕ → Bool
@@ -111,21 +114,20 @@ pub past-end : (b : ℕ) → findTwo twos b 0 ≡ none
 past-end b = alone twos b 0 refl
 
 -- the operators of one byte
-abbrev rows₁ : List ℕ → List ℕ → List (ℕ × Op)
-rows₁ (x ∷ xs) (z ∷ zs) = (x, opOf z) ∷ rows₁ xs zs
+abbrev rows₁ : List ℕ → List Op → List (ℕ × Op)
+rows₁ (x ∷ xs) (z ∷ zs) = (x, z) ∷ rows₁ xs zs
 rows₁ (x ∷ xs) [] = []
 rows₁ [] zs = []
 
-row₁ : (xs zs : List ℕ) (i : ℕ) → i < length xs → i < length zs → drop i (rows₁ xs zs) ≡ (getD xs i 0, opOf (getD zs i 0)) ∷ drop (suc i) (rows₁ xs zs)
+row₁ : (xs : List ℕ) (zs : List Op) (i : ℕ) → i < length xs → i < length zs → drop i (rows₁ xs zs) ≡ (getD xs i 0, getD zs i rem) ∷ drop (suc i) (rows₁ xs zs)
 row₁ [] zs i h k = absurd (omega arith)
 row₁ (x ∷ xs) [] i h k = absurd (omega arith)
 row₁ (x ∷ xs) (z ∷ zs) zero h k = refl
 row₁ (x ∷ xs) (z ∷ zs) (suc i) h k = row₁ xs zs i (omega arith) (omega arith)
 
 one-row : (i b : ℕ) → i < length singles
-    → findOne (drop i ones) b ≡ elim (eqb b (getD singles i 0)) [ true ↦ sign (opOf (getD singleCodes i 0)) | false ↦ findOne (drop (suc i) ones) b ]
-unfolding opOf opAt
-one-row i b h = ap (λ (r : List (ℕ × Op)). findOne r b) (row₁ singles singleCodes i h h)
+    → findOne (drop i ones) b ≡ elim (eqb b (getD singles i 0)) [ true ↦ sign (getD singleOps i rem) | false ↦ findOne (drop (suc i) ones) b ]
+one-row i b h = ap (λ (r : List (ℕ × Op)). findOne r b) (row₁ singles singleOps i h h)
 
 module _ (i b : ℕ) where
   pub single-end : length singles ≤ i → 0 ≡ singleFrom i b
@@ -137,6 +139,6 @@ module _ (i b : ℕ) where
   single-next h n w = w ∙ rw (add-one i) (sym (ap (λ t. codeOf (signOf t)) (one-row i b h ∙ left-if _ _ (ne-eqb _ _ n))))
 
   pub single-here : i < length singles → b ≡ getD singles i 0 → getD singleCodes i 0 ≡ singleFrom i b
-  unfolding singleFrom
+  unfolding singleFrom opCode
   single-here h e =
-      sym (ap (λ t. codeOf (signOf t)) (one-row i b h ∙ taken-if _ _ (eq-eqb _ _ e)) ∙ code-of (known singleCodes refl i h))
+      sym (ap (λ t. codeOf (signOf t)) (one-row i b h ∙ taken-if _ _ (eq-eqb _ _ e)) ∙ coded singleOps singleCodes refl i h)

@@ -4,7 +4,7 @@ use mathlib.Core.List.{List}
 use mathlib.Core.Option.{Option, none, some}
 use lib.ListN.{drop}
 use Rattle.rules.specs.Tree.{Op}
-use Rattle.rules.specs.Store.{opCode}
+use Rattle.rules.specs.Store.{nodeCode}
 use Rattle.reading_grammar.specs.Grammar.{Token, sign, number, mark}
 use Rattle.reading_grammar.specs.Tokens.{lex, digits, digit, findTwo, twos, findOne, ones}
 use Rattle.reading_tokens.specs.declared.Next.{Next}
@@ -12,7 +12,7 @@ use Rattle.reading_tokens.specs.Scan.{lead, first}
 
 -- the code of an operator that was found, or 0
 abbrev pub codeOf : Option Op → ℕ
-codeOf (some op) = opCode op
+codeOf (some op) = nodeCode op
 codeOf none = 0
 
 abbrev pub signOf : Token → Option Op

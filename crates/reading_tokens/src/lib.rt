@@ -1,14 +1,13 @@
 // The tokens of a plural rule, one after the other: the token that stands next from a position on, and the position after it. The operators
 // are rows of tables.
+use rules::node;
 ghost use mathlib.Core.Path.{_≡_};
 ghost use lib.ListN.{getD};
-ghost use Rattle.rules.specs.Pool.{opOf};
-ghost use Rattle.reading_grammar.specs.Grammar.{rank};
 ghost use Rattle.reading_grammar.specs.Tokens.{digit};
-ghost use Rattle.reading_tokens.specs.Scan.{Operator, skipped, next, passed};
+ghost use Rattle.reading_tokens.specs.Scan.{Operator, Ranks, skipped, next, passed};
 ghost use Rattle.reading_tokens.specs.Promise.{pairFrom, singleFrom, ran};
 
-// The next token and the position after it: an operator by its code, an integer of 64 bits or Huge, or any other byte.
+// The next token and the position after it: an operator by its node's code, an integer of 64 bits or Huge, or any other byte.
 pub enum Next {
     End,
     Sign(u8, usize),
@@ -28,22 +27,33 @@ const FIRST: [u8; 6] = [b'=', b'!', b'<', b'>', b'&', b'|'];
 
 const SECOND: [u8; 6] = [b'=', b'=', b'=', b'=', b'&', b'|'];
 
-const PAIR_CODE: [u8; 6] = [4, 5, 7, 6, 10, 11];
+const PAIR_CODE: [u8; 6] = [
+    node::OP + node::EQUAL,
+    node::OP + node::NOT_EQUAL,
+    node::OP + node::SMALLER_OR_EQUAL,
+    node::OP + node::GREATER_OR_EQUAL,
+    node::OP + node::AND,
+    node::OP + node::OR,
+];
 
 // The operators of one byte: byte, code.
 const SINGLE: [u8; 3] = [b'%', b'<', b'>'];
 
-const SINGLE_CODE: [u8; 3] = [12, 9, 8];
+const SINGLE_CODE: [u8; 3] = [
+    node::OP + node::MODULO,
+    node::OP + node::SMALLER,
+    node::OP + node::GREATER,
+];
 
-// The rank of the operator of each code from 4 on, 1 the tightest.
+// The rank of each operator, 1 the tightest.
 const RANK: [u8; 9] = [3, 3, 2, 2, 2, 2, 4, 5, 1];
 
 // The rank of an operator.
 pub fn rank_of(c: u8) -> u8
     requires { ⌜ Operator c ⌝ }
-    ensures { λ r. ⌜ r ≡ rank (opOf c) ⌝ }
+    ensures { λ r. ⌜ Ranks c r ⌝ }
 {
-    RANK[(c - 4) as usize]
+    RANK[(c - node::OP) as usize]
 }
 
 // The code of the operator that two bytes are, among the rows from i on; 0 for none.

@@ -1,10 +1,8 @@
--- The answers of a pool by the tree test and the tree at its root, and that a pool which is a tree can be walked from its root.
+-- The answers of a pool by the tree test and the tree at its root.
 use mathlib.Core.Path.{_≡_, refl, sym, ap, _∙_}
 use mathlib.Core.Bool.{Bool, true, false}
-use mathlib.Core.List.{[]}
 use Prim.Native.Nat.{ℕ}
-use lib.Dec.{leb, ltb}
-use borrow.Author.Tests.{leb-true, ltb-true}
+use lib.Dec.{ltb}
 use Rattle.rules.specs.declared.Value.{Value}
 use Rattle.rules.specs.declared.Rating.{Rating}
 use Rattle.rules.specs.declared.Rating.the-variants as rating
@@ -15,28 +13,10 @@ use Rattle.rules.specs.declared.Fit.{Fit}
 use Rattle.rules.specs.declared.Fit.the-variants as fit
 use Rattle.rules.specs.Value.{evalTree}
 use Rattle.rules.specs.Range.{rateTree, fitsRange}
-use Rattle.rules.specs.Pool.{Pool, pool, treeOf, isTree, shaped}
-use Rattle.rules.specs.Sound.{Sound}
+use Rattle.rules.specs.Pool.{Pool, treeOf, isTree}
 use Rattle.rules.specs.Answer.{formOf, rangeOf, fitting, resolvedOf, ratedOf, fitOf}
-use Rattle.rules.proofs.Trees.{both-left, both-right}
-use Rattle.rules.proofs.Places.{tree-any}
-
--- the tree test looks at no values
-pub told : (P : Pool) (count root : ℕ) {a b : Bool} → a ≡ isTree (pool (P .codes) (P .places) []) count root → a ≡ b → isTree P count root ≡ b
-told P count root e f = tree-any (P .codes) (P .places) (P .values) [] count root ∙ sym e ∙ f
 
 module _ (P : Pool) (count root : ℕ) where
-  pub sound : isTree P count root ≡ true → Sound P root
-  unfolding isTree
-  sound e =
-      let inner = both-right (leb count 512) _ e in
-      record {
-        count = count;
-        inside = ltb-true root count (both-left (ltb root count) _ inner);
-        few = leb-true count 512 (both-left (leb count 512) _ e);
-        shape = both-left (shaped P count) _ (both-right (ltb root count) _ inner);
-      }
-
   pub resolved-tree : (n : ℕ) → isTree P count root ≡ true → resolvedOf P count root n ≡ formOf (evalTree (treeOf P root) n)
   unfolding resolvedOf
   resolved-tree n e = rw (resolvedOf, e)

@@ -14,11 +14,12 @@ use Rattle.rules.specs.declared.Fit.the-variants.{Yes}
 use Rattle.rules.specs.Value.{truth, binary, evalTree}
 use Rattle.rules.specs.Range.{opRange, binRange, rateTree, fitsRange}
 use Rattle.rules.specs.Pool.{Pool, treeOf, isTree}
-use Rattle.rules.specs.Tree.{var, int, bin, cmp, ne}
-use Rattle.rules.specs.Store.{size, store, blank}
+use Rattle.rules.specs.Tree.{defaultTree}
+use Rattle.rules.specs.Store.{size}
+use Rattle.rules.specs.Pack.{pack, nodes, packedSize, packed}
 use Rattle.rules.specs.Answer.{formOf, rangeOf, fitting, resolvedOf, ratedOf, fitOf}
 use Rattle.rules.proofs.InRange.{FromTo, Below, rated as tree-rated, fitting as tree-fitting}
-use Rattle.rules.proofs.StoredTree.{blank-resolves, blank-rates}
+use Rattle.rules.proofs.StoredTree.{packed-resolves, packed-rates}
 use Rattle.rules.proofs.Answers.{resolved-tree, rated-tree, rated-none, fit-tree, fit-none}
 
 pub record FormFromTo (lo hi : ℕ) (r : Resolved) : Type 0 where
@@ -73,10 +74,10 @@ module _ (P : Pool) (count root : ℕ) where
       record { form = w .form; is = resolved-tree P count root n t ∙ ap formOf (w .is); low = w .low }
 
 -- the default rule's pool: its range is 0 to 1, and its form 0 for 1, else 1
-pub default-rates : ratedOf (store (bin (cmp ne) var (int 1)) 0 blank) 3 2 ≡ rated.Range 0 1
-unfolding size rateTree binRange opRange
-default-rates = blank-rates (bin (cmp ne) var (int 1)) (omega arith)
+pub default-rates : ratedOf (packed defaultTree) 1 0 ≡ rated.Range 0 1
+unfolding size packedSize pack nodes rateTree binRange opRange
+default-rates = packed-rates defaultTree (omega arith)
 
-pub default-resolves : (n : ℕ) → resolvedOf (store (bin (cmp ne) var (int 1)) 0 blank) 3 2 n ≡ Form (truth (not (eqb n 1)))
-unfolding size evalTree binary
-default-resolves n = blank-resolves (bin (cmp ne) var (int 1)) (omega arith) n
+pub default-resolves : (n : ℕ) → resolvedOf (packed defaultTree) 1 0 n ≡ Form (truth (not (eqb n 1)))
+unfolding size packedSize pack nodes evalTree binary
+default-resolves n = packed-resolves defaultTree (omega arith) n

@@ -53,7 +53,7 @@ rem-in h l m x y false e p q r =
     let y0 : y ≡ 0 → ⊥ = omega arith in
     rw (ne-eqb _ _ y0) (omega (arith, mod-lt x {m = y} (omega arith), mod-le x y))
 
-op-in : (op : Op) (k h l m : ℕ) (v w : Value) → Within (Range k h) v → Within (Range l m) w → Within (opRange op h l m) (binary op v w)
+op-in : (op : Op) (k h l m : ℕ) (v w : Value) → Within (Range k h) v → Within (Range l m) w → Within (opRange op k h l m) (binary op v w)
 unfolding opRange binary
 op-in op k h l m ZeroModulus w p q = absurd p
 op-in (cmp c) k h l m (Is x) (Is y) p q = truth-in (compared c x y)

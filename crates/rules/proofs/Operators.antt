@@ -1,50 +1,88 @@
--- Laws of the binary operators by their codes: opOf counts from code 4, so they are said of the index into the list of operators.
-use mathlib.Core.Path.{_≡_, refl}
+-- The table of operators: a number below its length has an operator, and an operator has one number.
+use mathlib.Core.Path.{_≡_, refl, sym, ap, _∙_}
 use mathlib.Core.Bool.{true, false}
-use Prim.Native.Nat.{ℕ, zero, suc, _-_, _<_}
+use mathlib.Core.List.{List, [], _∷_}
+use mathlib.Core.Option.{Option, none, some}
+use Prim.Native.Nat.{ℕ, zero, suc, _<_}
 use native.Mathlib.Omega.{arith}
-use lib.Dec.{eqb}
-use borrow.Author.Tests.{not-true, not-false}
-use Rattle.rules.specs.declared.Value.{Value}
-use Rattle.rules.specs.declared.Value.the-variants.{Is, ZeroModulus}
-use Rattle.rules.specs.declared.Rating.the-variants.{Range}
-use Rattle.rules.specs.Tree.{Op, cmp, and, or, rem, Cmp, eq, ne, ge, le, gt, lt}
-use Rattle.rules.specs.Value.{binary, truthV}
-use Rattle.rules.specs.Range.{opRange}
-use Rattle.rules.specs.Pool.{operators, opAt, opOf}
+use lib.ListN.{length}
+use Rattle.rules.specs.Tree.{Op, cmp, and, or, rem, eq, ne, ge, le, gt, lt}
+use Rattle.rules.specs.Operator.{operators, opAt, opOf, Named, opCode}
 
 pub never : {A : Type 0} → false ≡ true → A
 never e = let z : _≡_ {A = ℕ} 0 1 = cc in absurd (omega arith)
 
--- what holds of each operator at its index holds of the operator at any index; the indices past the last are %'s too
-pub each : (Q : ℕ → Op → Type 0) → Q 0 (cmp eq) → Q 1 (cmp ne) → Q 2 (cmp ge) → Q 3 (cmp le) → Q 4 (cmp gt) → Q 5 (cmp lt)
-    → Q 6 and → Q 7 or → ((i : ℕ) → 7 < i → Q i rem) → (i : ℕ) → Q i (opAt operators i)
+record Row (ops : List Op) (i : ℕ) : Type 0 where
+  op : Op
+  is : opAt ops i ≡ some op
+
+row : (ops : List Op) (i : ℕ) → i < length ops → Row ops i
 unfolding opAt
-each Q a b c d e f g h r zero = a
-each Q a b c d e f g h r (suc zero) = b
-each Q a b c d e f g h r (suc (suc zero)) = c
-each Q a b c d e f g h r (suc (suc (suc zero))) = d
-each Q a b c d e f g h r (suc (suc (suc (suc zero)))) = e
-each Q a b c d e f g h r (suc (suc (suc (suc (suc zero))))) = f
-each Q a b c d e f g h r (suc (suc (suc (suc (suc (suc zero)))))) = g
-each Q a b c d e f g h r (suc (suc (suc (suc (suc (suc (suc zero))))))) = h
-each Q a b c d e f g h r (suc (suc (suc (suc (suc (suc (suc (suc zero)))))))) = r 8 (omega arith)
-each Q a b c d e f g h r (suc (suc (suc (suc (suc (suc (suc (suc (suc i))))))))) = r _ (omega arith)
+row [] i h = absurd (omega arith)
+row (op ∷ ops) zero h = record { op = op; is = refl }
+row (op ∷ ops) (suc i) h = let r = row ops i (omega arith) in record { op = r .op; is = r .is }
 
--- the same by the code, with the comparisons as one
-pub by-code : (Q : ℕ → Op → Type 0) → ((k : Cmp) (i : ℕ) → i < 6 → Q i (cmp k)) → Q 6 and → Q 7 or → ((i : ℕ) → 7 < i → Q i rem)
-    → (c : ℕ) → Q (c - 4) (opOf c)
+pub named : (i : ℕ) → i < length operators → Named i
 unfolding opOf
-by-code Q k g h r c =
-    each Q (k eq 0 (omega arith)) (k ne 1 (omega arith)) (k ge 2 (omega arith)) (k le 3 (omega arith)) (k gt 4 (omega arith))
-    (k lt 5 (omega arith)) g h r (c - 4)
+named i h = let r = row operators i h in record { op = r .op; is = r .is }
 
-pub op-rem : (c : ℕ) → 11 < c → opOf c ≡ rem
-op-rem c h =
-    by-code (λ i op. 7 < i → op ≡ rem) (λ k i j l. absurd (omega arith)) (λ l. absurd (omega arith)) (λ l. absurd (omega arith))
-    (λ i j l. refl) c (omega arith)
+pub op-code : (op : Op) → opOf (opCode op) ≡ some op
+unfolding opCode opOf opAt
+op-code (cmp eq) = refl
+op-code (cmp ne) = refl
+op-code (cmp ge) = refl
+op-code (cmp le) = refl
+op-code (cmp gt) = refl
+op-code (cmp lt) = refl
+op-code and = refl
+op-code or = refl
+op-code rem = refl
 
-pub range-below : (c h l m : ℕ) → c < 12 → opRange (opOf c) h l m ≡ Range 0 1
-unfolding opRange
-range-below c h l m b =
-    by-code (λ i op. i < 8 → opRange op h l m ≡ Range 0 1) (λ k i j p. refl) (λ p. refl) (λ p. refl) (λ i j p. absurd (omega arith)) c (omega arith)
+pub code-in : (op : Op) → opCode op < length operators
+unfolding opCode
+code-in (cmp eq) = omega arith
+code-in (cmp ne) = omega arith
+code-in (cmp ge) = omega arith
+code-in (cmp le) = omega arith
+code-in (cmp gt) = omega arith
+code-in (cmp lt) = omega arith
+code-in and = omega arith
+code-in or = omega arith
+code-in rem = omega arith
+
+abbrev numberIn : Option Op → ℕ
+numberIn none = 0
+numberIn (some op) = opCode op
+
+pub same-op : {p q : Op} → some p ≡ some q → p ≡ q
+same-op e = cc
+
+none-some : {A : Type 0} {op : Op} → none ≡ some op → A
+none-some e = let z : _≡_ {A = ℕ} 0 1 = cc in absurd (omega arith)
+
+-- a number that has an operator is the operator's
+pub code-is : (i : ℕ) (op : Op) → opOf i ≡ some op → opCode op ≡ i
+unfolding opOf opAt opCode
+code-is zero op e = sym (ap numberIn e)
+code-is (suc zero) op e = sym (ap numberIn e)
+code-is (suc (suc zero)) op e = sym (ap numberIn e)
+code-is (suc (suc (suc zero))) op e = sym (ap numberIn e)
+code-is (suc (suc (suc (suc zero)))) op e = sym (ap numberIn e)
+code-is (suc (suc (suc (suc (suc zero))))) op e = sym (ap numberIn e)
+code-is (suc (suc (suc (suc (suc (suc zero)))))) op e = sym (ap numberIn e)
+code-is (suc (suc (suc (suc (suc (suc (suc zero))))))) op e = sym (ap numberIn e)
+code-is (suc (suc (suc (suc (suc (suc (suc (suc zero)))))))) op e = sym (ap numberIn e)
+code-is (suc (suc (suc (suc (suc (suc (suc (suc (suc i))))))))) op e = none-some e
+
+-- from the number of % on there is none but it
+pub is-rem : (i : ℕ) (op : Op) → opOf i ≡ some op → 7 < i → op ≡ rem
+unfolding opCode
+is-rem i (cmp eq) e h = let d = code-is i (cmp eq) e in absurd (omega arith)
+is-rem i (cmp ne) e h = let d = code-is i (cmp ne) e in absurd (omega arith)
+is-rem i (cmp ge) e h = let d = code-is i (cmp ge) e in absurd (omega arith)
+is-rem i (cmp le) e h = let d = code-is i (cmp le) e in absurd (omega arith)
+is-rem i (cmp gt) e h = let d = code-is i (cmp gt) e in absurd (omega arith)
+is-rem i (cmp lt) e h = let d = code-is i (cmp lt) e in absurd (omega arith)
+is-rem i and e h = let d = code-is i and e in absurd (omega arith)
+is-rem i or e h = let d = code-is i or e in absurd (omega arith)
+is-rem i rem e h = refl

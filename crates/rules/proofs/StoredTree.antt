@@ -1,32 +1,47 @@
 -- A tree that was stored passes the tree test: each node's operands are the last places of the trees before it, which no node before
--- it uses. So every answer of a pool with a stored tree is the tree's own.
+-- it uses. So every answer of a pool with a packed tree is the tree's own.
 use Prim.Native.Nat.{ℕ, zero, suc, _+_, _-_, _<_, _≤_}
 use mathlib.Core.Path.{_≡_, refl, ap, ap₂, _∙_}
-use mathlib.Core.Bool.{true, false}
+use mathlib.Core.Bool.{Bool, true, false}
 use mathlib.Core.List.{List, [], _∷_, _++_}
 use native.Mathlib.Omega.{arith}
 use native.Mathlib.Nat.{zero-add}
-use borrow.Author.Tests.{lt-ltb, le-leb}
-use Rattle.rules.specs.Tree.{Tree, var, int, nay, bin, cond, Op}
+use lib.Dec.{ltb}
+use borrow.Author.Tests.{lt-ltb, le-ltb, le-leb}
+use Rattle.rules.specs.Tree.{Tree}
 use Rattle.rules.specs.Value.{evalTree}
 use Rattle.rules.specs.Range.{rateTree, fitsRange}
-use Rattle.rules.specs.Pool.{Pool, code, arity, operandsTo, operands, allBelow, used, member, distinct, shaped, treeOf, isTree}
-use Rattle.rules.specs.Store.{push, opCode, size, store, blank}
 use Rattle.rules.specs.Answer.{formOf, rangeOf, fitting, resolvedOf, ratedOf, fitOf}
-use Rattle.rules.proofs.Trees.{just-two, three-most}
-use Rattle.rules.proofs.Places.{member-tail}
+use Rattle.rules.specs.Pool.{Pool, code, known, fields, operandsTo, operands, allBelow, member, distinct, used, shaped, treeOf, isTree}
+use Rattle.rules.specs.Store.{push, size, blank}
+use Rattle.rules.specs.Pack.{Packed, leaf, one, two, three, pack, nodes, keep, packedSize, packed}
+use Rattle.rules.proofs.Trees.{member-tail}
 use Rattle.rules.proofs.Answers.{resolved-tree, rated-tree, fit-tree}
-use Rattle.rules.proofs.Stored.{code-in, size-pos, Long, less, Same, Node, push-below, pushed, store-long, holds-at, long-blank}
+use Rattle.rules.proofs.Packs.{Fits, right}
+use Rattle.rules.proofs.Stored.{nodes-pos, Long, less, Same, Node, push-below, pushed, keep-long, long-blank, kept-tree}
 
 -- pools that agree below k pass the test there alike
-operands-to : (P Q : Pool) (p a : ℕ) → a ≤ 3 → Same P Q p → operandsTo P p a ≡ operandsTo Q p a
+fields-most : (c : ℕ) → fields c ≤ 2
+fields-most c = go (ltb c 80) (ltb c 112)
+  where
+    go : (a b : Bool) → elim a [ true ↦ 0 | false ↦ elim b [ true ↦ 1 | false ↦ 2 ] ] ≤ 2
+    go true b = omega arith
+    go false true = omega arith
+    go false false = omega arith
+
+operands-to : (P Q : Pool) (p a : ℕ) → a ≤ 2 → Same P Q p → operandsTo P p a ≡ operandsTo Q p a
 unfolding operandsTo
 operands-to P Q p zero h s = refl
-operands-to P Q p (suc a) h s = rw (s .place-same a (omega arith), operands-to P Q p a (omega arith) s)
+operands-to P Q p (suc a) h s = rw (s .field-same a (omega arith), operands-to P Q p a (omega arith) s)
+
+abbrev by : Pool → ℕ → ℕ → List ℕ
+by Q p c = elim (ltb c 48) [ true ↦ [] | false ↦ operandsTo Q p (fields c) ]
 
 operands-same : (P Q : Pool) (p : ℕ) → Same P Q p → operands P p ≡ operands Q p
 unfolding operands
-operands-same P Q p s = operands-to P Q p (arity (code P p)) (three-most (code P p)) s ∙ ap (λ (c : ℕ). operandsTo Q p (arity c)) (s .code-same)
+operands-same P Q p s =
+    ap (λ (l : List ℕ). elim (ltb (code P p) 48) [ true ↦ [] | false ↦ l ]) (operands-to P Q p (fields (code P p)) (fields-most (code P p)) s)
+    ∙ ap (by Q p) (s .code-same)
 
 used-same : (P Q : Pool) (k : ℕ) → ((i : ℕ) → i < k → Same P Q i) → used P k ≡ used Q k
 unfolding used
@@ -81,51 +96,48 @@ further g f l = record {
 }
 
 -- the operands of a node that was just pushed
-module _ {X : Pool} {k c x y z v : ℕ} (n : Node X k c x y z v) where
-  ops : (a : ℕ) → arity c ≡ a → operands X k ≡ operandsTo X k a
+module _ {X : Pool} {k c x y v : ℕ} (n : Node X k c x y v) where
+  ops-leaf : c < 48 → operands X k ≡ []
   unfolding operands
-  ops a e = rw (n .code-is, e)
+  ops-leaf h = rw (operands, n .code-is, lt-ltb c 48 h)
 
-  ops-none : arity c ≡ 0 → operands X k ≡ []
+  ops-to : (a : ℕ) → 47 < c → fields c ≡ a → operands X k ≡ operandsTo X k a
+  unfolding operands
+  ops-to a h e = rw (operands, n .code-is, le-ltb c 48 h) (ap (operandsTo X k) (ap fields (n .code-is) ∙ e))
+
+  ops-one : 47 < c → c < 80 → operands X k ≡ (k - 1) ∷ []
   unfolding operandsTo
-  ops-none e = ops 0 e
+  ops-one h l = ops-to 0 h (rw (fields, lt-ltb c 80 l))
 
-  ops-one : arity c ≡ 1 → operands X k ≡ x ∷ []
+  ops-two : 79 < c → c < 112 → operands X k ≡ x ∷ (k - 1) ∷ []
   unfolding operandsTo
-  ops-one e = ops 1 e ∙ rw (n .first-is)
+  ops-two h l = ops-to 1 (omega arith) (rw (fields, le-ltb c 80 h, lt-ltb c 112 l)) ∙ rw (n .first-is)
 
-  ops-two : arity c ≡ 2 → operands X k ≡ y ∷ x ∷ []
+  ops-three : 111 < c → operands X k ≡ y ∷ x ∷ (k - 1) ∷ []
   unfolding operandsTo
-  ops-two e = ops 2 e ∙ rw (n .first-is, n .second-is)
-
-  ops-three : arity c ≡ 3 → operands X k ≡ z ∷ y ∷ x ∷ []
-  unfolding operandsTo
-  ops-three e = ops 3 e ∙ rw (n .first-is, n .second-is, n .third-is)
-
-op-arity : (op : Op) → arity (opCode op) ≡ 2
-op-arity op = let h = code-in op in just-two (opCode op) (omega arith)
+  ops-three h = ops-to 2 (omega arith) (rw (fields, le-ltb c 80 (omega arith), le-ltb c 112 h)) ∙ rw (n .first-is, n .second-is)
 
 -- a node more, over operands that are below it and that none uses
-module _ (P Q : Pool) (k n c x y z v : ℕ) where
+module _ (P Q : Pool) (k n c x y v : ℕ) where
   abbrev X : Pool
-  X = push Q n c x y z v
+  X = push Q n c x y v
 
-  node-filled : (m : ℕ) (ys : List ℕ) → m ≡ suc n → Long Q (n + 1) → shaped Q n ≡ true → c < 13 → operands X n ≡ ys → allBelow n ys ≡ true
+  node-filled : (m : ℕ) (ys : List ℕ) → m ≡ suc n → Long Q (n + 1) → shaped Q n ≡ true → known c ≡ true → operands X n ≡ ys → allBelow n ys ≡ true
       → Grown (ys ++ used Q n) (used P k) k n → Filled P X k m
   unfolding shaped used
   node-filled m ys e l s h o b g =
-      let u : used X n ≡ used Q n = used-same X Q n (λ i j. push-below Q n c x y z v i j) in
-      let w : shaped X n ≡ true = shaped-same X Q n (λ i j. push-below Q n c x y z v i j) ∙ s in
+      let u : used X n ≡ used Q n = used-same X Q n (λ i j. push-below Q n c x y v i j) in
+      let w : shaped X n ≡ true = shaped-same X Q n (λ i j. push-below Q n c x y v i j) ∙ s in
       let d : used X m ≡ ys ++ used Q n = rw (e, o, u) in
       record {
-        shape = rw (e, w, o, pushed Q n c x y z v l .code-is, lt-ltb c 13 h, b);
+        shape = rw (e, w, o, pushed Q n c x y v l .code-is, h, b);
         apart = rw d (g .apart);
         above = λ i j. rw d (g .above i (omega arith));
         kept = λ i j. rw d (g .kept i j);
       }
 
-leaf : {P : Pool} {k : ℕ} → Tidy P k → Grown (used P k) (used P k) k k
-leaf t = record { apart = t .apart; above = t .above; kept = λ i j. refl }
+bare : {P : Pool} {k : ℕ} → Tidy P k → Grown (used P k) (used P k) k k
+bare t = record { apart = t .apart; above = t .above; kept = λ i j. refl }
 
 all-below-one : (n x : ℕ) → x < n → allBelow n (x ∷ []) ≡ true
 unfolding allBelow
@@ -139,66 +151,64 @@ all-below-three : (n x y z : ℕ) → x < n → y < n → z < n → allBelow n (
 unfolding allBelow
 all-below-three n x y z h l b = rw (lt-ltb x n h, lt-ltb y n l, lt-ltb z n b)
 
-fill : (t : Tree) (k : ℕ) (P : Pool) → Long P (k + size t) → Tidy P k → Filled P (store t k P) k (k + size t)
-unfolding store size allBelow
-fill var k P l t =
-    node-filled P P k k 0 0 0 0 0 _ [] (omega arith) l (t .shape) (omega arith) (ops-none (pushed P k 0 0 0 0 0 l) refl) refl (leaf t)
-fill (int v) k P l t =
-    node-filled P P k k 1 0 0 0 v _ [] (omega arith) l (t .shape) (omega arith) (ops-none (pushed P k 1 0 0 0 v l) refl) refl (leaf t)
-fill (nay t) k P l h =
-    let n = k + size t in
-    let Q = store t k P in
-    let room : Long Q (n + 1) = store-long t k P (less (n + 1) (omega arith) l) in
-    let pos = size-pos t in
-    let f : Filled P Q k n = fill t k P (less n (omega arith) l) h in
-    node-filled P Q k n 2 (n - 1) 0 0 0 _ ((n - 1) ∷ []) (omega arith) room (f .shape) (omega arith)
-    (ops-one (pushed Q n 2 (n - 1) 0 0 0 room) refl)
+fill : (x : Packed) (k : ℕ) (P : Pool) → Fits x → Long P (k + nodes x) → Tidy P k → Filled P (keep x k P) k (k + nodes x)
+unfolding keep nodes allBelow
+fill (leaf c m v) k P f l t =
+    node-filled P P k k c m 0 v _ [] (omega arith) l (t .shape) (f .1) (ops-leaf (pushed P k c m 0 v l) (f .0)) refl (bare t)
+fill (one c m v x) k P f l h =
+    let n = k + nodes x in
+    let Q = keep x k P in
+    let room : Long Q (n + 1) = keep-long x k P (less (n + 1) (omega arith) l) in
+    let pos = nodes-pos x in
+    let a : Filled P Q k n = fill x k P (f .2) (less n (omega arith) l) h in
+    node-filled P Q k n c m 0 v _ ((n - 1) ∷ []) (omega arith) room (a .shape) (f .3)
+    (ops-one (pushed Q n c m 0 v room) (f .0) (f .1))
     (all-below-one n (n - 1) (omega arith))
-    (add (grown f) (f .above (n - 1) (omega arith)) (omega arith) (omega arith))
-fill (bin op s t) k P l h =
-    let m = k + size s in
-    let n = k + size s + size t in
-    let R = store s k P in
-    let Q = store t m R in
-    let room : Long Q (n + 1) = store-long t m R (store-long s k P (less (n + 1) (omega arith) l)) in
-    let ps = size-pos s in
-    let pt = size-pos t in
-    let f : Filled P R k m = fill s k P (less m (omega arith) l) h in
-    let g : Filled R Q m n = fill t m R (store-long s k P (less n (omega arith) l)) (tidy f) in
-    node-filled P Q k n (opCode op) (m - 1) (n - 1) 0 0 _ ((n - 1) ∷ (m - 1) ∷ []) (omega arith) room (g .shape) (code-in op .1)
-    (ops-two (pushed Q n (opCode op) (m - 1) (n - 1) 0 0 room) (op-arity op))
-    (all-below-two n (m - 1) (n - 1) (omega arith) (omega arith))
+    (add (grown a) (a .above (n - 1) (omega arith)) (omega arith) (omega arith))
+fill (two c v x y) k P f l h =
+    let m = k + nodes x in
+    let n = k + nodes x + nodes y in
+    let R = keep x k P in
+    let Q = keep y m R in
+    let room : Long Q (n + 1) = keep-long y m R (keep-long x k P (less (n + 1) (omega arith) l)) in
+    let px = nodes-pos x in
+    let py = nodes-pos y in
+    let a : Filled P R k m = fill x k P (f .2) (less m (omega arith) l) h in
+    let b : Filled R Q m n = fill y m R (f .3) (keep-long x k P (less n (omega arith) l)) (tidy a) in
+    node-filled P Q k n c (m - 1) 0 v _ ((m - 1) ∷ (n - 1) ∷ []) (omega arith) room (b .shape) (f .4)
+    (ops-two (pushed Q n c (m - 1) 0 v room) (f .0) (f .1))
+    (all-below-two n (n - 1) (m - 1) (omega arith) (omega arith))
     (add
-    (add (grown (further g f (omega arith))) (g .kept (m - 1) (omega arith) ∙ f .above (m - 1) (omega arith)) (omega arith) (omega arith))
-    (member-tail (m - 1) (n - 1) (used Q n) (omega arith) ∙ g .above (n - 1) (omega arith))
+    (add (grown (further b a (omega arith))) (b .above (n - 1) (omega arith)) (omega arith) (omega arith))
+    (member-tail (n - 1) (m - 1) (used Q n) (omega arith) ∙ b .kept (m - 1) (omega arith) ∙ a .above (m - 1) (omega arith))
     (omega arith)
     (omega arith))
-fill (cond s t u) k P l h =
-    let m = k + size s in
-    let r = k + size s + size t in
-    let n = k + size s + size t + size u in
-    let R = store s k P in
-    let S = store t m R in
-    let Q = store u r S in
-    let room : Long Q (n + 1) = store-long u r S (store-long t m R (store-long s k P (less (n + 1) (omega arith) l))) in
-    let ps = size-pos s in
-    let pt = size-pos t in
-    let pu = size-pos u in
-    let f : Filled P R k m = fill s k P (less m (omega arith) l) h in
-    let g : Filled R S m r = fill t m R (store-long s k P (less r (omega arith) l)) (tidy f) in
-    let e : Filled S Q r n = fill u r S (store-long t m R (store-long s k P (less n (omega arith) l))) (tidy g) in
-    node-filled P Q k n 3 (m - 1) (r - 1) (n - 1) 0 _ ((n - 1) ∷ (r - 1) ∷ (m - 1) ∷ []) (omega arith) room (e .shape) (omega arith)
-    (ops-three (pushed Q n 3 (m - 1) (r - 1) (n - 1) 0 room) refl)
-    (all-below-three n (m - 1) (r - 1) (n - 1) (omega arith) (omega arith) (omega arith))
+fill (three x y z) k P f l h =
+    let m = k + nodes x in
+    let r = k + nodes x + nodes y in
+    let n = k + nodes x + nodes y + nodes z in
+    let R = keep x k P in
+    let S = keep y m R in
+    let Q = keep z r S in
+    let room : Long Q (n + 1) = keep-long z r S (keep-long y m R (keep-long x k P (less (n + 1) (omega arith) l))) in
+    let px = nodes-pos x in
+    let py = nodes-pos y in
+    let pz = nodes-pos z in
+    let a : Filled P R k m = fill x k P (f .0) (less m (omega arith) l) h in
+    let b : Filled R S m r = fill y m R (f .1) (keep-long x k P (less r (omega arith) l)) (tidy a) in
+    let e : Filled S Q r n = fill z r S (f .2) (keep-long y m R (keep-long x k P (less n (omega arith) l))) (tidy b) in
+    node-filled P Q k n 112 (m - 1) (r - 1) 0 _ ((r - 1) ∷ (m - 1) ∷ (n - 1) ∷ []) (omega arith) room (e .shape) refl
+    (ops-three (pushed Q n 112 (m - 1) (r - 1) 0 room) (omega arith))
+    (all-below-three n (n - 1) (m - 1) (r - 1) (omega arith) (omega arith) (omega arith))
     (add
     (add
-    (add (grown (further e (further g f (omega arith)) (omega arith)))
-    (e .kept (m - 1) (omega arith) ∙ g .kept (m - 1) (omega arith) ∙ f .above (m - 1) (omega arith)) (omega arith) (omega arith))
-    (member-tail (m - 1) (r - 1) (used Q n) (omega arith) ∙ e .kept (r - 1) (omega arith) ∙ g .above (r - 1) (omega arith))
+    (add (grown (further e (further b a (omega arith)) (omega arith))) (e .above (n - 1) (omega arith)) (omega arith) (omega arith))
+    (member-tail (n - 1) (m - 1) (used Q n) (omega arith) ∙ e .kept (m - 1) (omega arith) ∙ b .kept (m - 1) (omega arith)
+    ∙ a .above (m - 1) (omega arith))
     (omega arith)
     (omega arith))
-    (member-tail (r - 1) (n - 1) ((m - 1) ∷ used Q n) (omega arith) ∙ member-tail (m - 1) (n - 1) (used Q n) (omega arith)
-    ∙ e .above (n - 1) (omega arith))
+    (member-tail (m - 1) (r - 1) ((n - 1) ∷ used Q n) (omega arith) ∙ member-tail (n - 1) (r - 1) (used Q n) (omega arith)
+    ∙ e .kept (r - 1) (omega arith) ∙ b .above (r - 1) (omega arith))
     (omega arith)
     (omega arith))
 
@@ -206,39 +216,31 @@ nothing : (P : Pool) → Tidy P 0
 unfolding shaped used distinct member
 nothing P = record { shape = refl; apart = refl; above = λ i h. refl }
 
--- a tree of at most 512 nodes, stored from place 0 on, is a tree with its root at the last place
-module _ (t : Tree) (P : Pool) (few : size t ≤ 512) (room : Long P 512) where
-  pub stored-is-tree : isTree (store t 0 P) (size t) (size t - 1) ≡ true
-  unfolding isTree
-  stored-is-tree =
-      let f : Filled P (store t 0 P) 0 (size t) = rw (← zero-add (size t)) (fill t 0 P (less (0 + size t) (omega arith) room) (nothing P)) in
-      rw (le-leb (size t) 512 few, lt-ltb (size t - 1) (size t) (omega (arith, size-pos t)), f .shape, f .apart)
+-- nodes for a tree of at most 512, kept from place 0 on, are a tree with its root at the last place
+pub kept-is-tree : (x : Packed) → Fits x → nodes x ≤ 512 → isTree (keep x 0 blank) (nodes x) (nodes x - 1) ≡ true
+unfolding isTree
+kept-is-tree x w h =
+    let f : Filled blank (keep x 0 blank) 0 (nodes x) = rw (← zero-add (nodes x)) (fill x 0 blank w (less (0 + nodes x) (omega arith) long-blank) (nothing blank)) in
+    rw (le-leb (nodes x) 512 h, lt-ltb (nodes x - 1) (nodes x) (omega (arith, nodes-pos x)), f .shape, f .apart)
 
-  pub stored-tree : treeOf (store t 0 P) (size t - 1) ≡ t
-  stored-tree = holds-at t 0 P (size t - 1) (omega (arith, size-pos t)) (less (0 + size t) (omega arith) room)
+-- a tree that is packed, of at most 512 nodes before
+module _ (t : Tree) (few : size t ≤ 512) where
+  pub packed-is-tree : isTree (packed t) (packedSize t) (packedSize t - 1) ≡ true
+  unfolding packedSize packed
+  packed-is-tree = kept-is-tree (pack t) (right t .fits) (omega (arith, right t .few))
+
+  pub packed-tree : treeOf (packed t) (packedSize t - 1) ≡ t
+  unfolding packedSize packed
+  packed-tree = kept-tree (pack t) (right t .fits) (omega (arith, right t .few)) ∙ right t .same
 
   -- so each answer of the pool is the tree's
-  pub stored-resolves : (n : ℕ) → resolvedOf (store t 0 P) (size t) (size t - 1) n ≡ formOf (evalTree t n)
-  stored-resolves n =
-      resolved-tree (store t 0 P) (size t) (size t - 1) n stored-is-tree ∙ ap (λ (u : Tree). formOf (evalTree u n)) stored-tree
+  pub packed-resolves : (n : ℕ) → resolvedOf (packed t) (packedSize t) (packedSize t - 1) n ≡ formOf (evalTree t n)
+  packed-resolves n =
+      resolved-tree (packed t) (packedSize t) (packedSize t - 1) n packed-is-tree ∙ ap (λ (u : Tree). formOf (evalTree u n)) packed-tree
 
-  pub stored-rates : ratedOf (store t 0 P) (size t) (size t - 1) ≡ rangeOf (rateTree t)
-  stored-rates = rated-tree (store t 0 P) (size t) (size t - 1) stored-is-tree ∙ ap (λ (u : Tree). rangeOf (rateTree u)) stored-tree
+  pub packed-rates : ratedOf (packed t) (packedSize t) (packedSize t - 1) ≡ rangeOf (rateTree t)
+  packed-rates = rated-tree (packed t) (packedSize t) (packedSize t - 1) packed-is-tree ∙ ap (λ (u : Tree). rangeOf (rateTree u)) packed-tree
 
-  pub stored-fits : (k : ℕ) → fitOf (store t 0 P) (size t) (size t - 1) k ≡ fitting (fitsRange (rateTree t) k)
-  stored-fits k =
-      fit-tree (store t 0 P) (size t) (size t - 1) k stored-is-tree ∙ ap (λ (u : Tree). fitting (fitsRange (rateTree u) k)) stored-tree
-
--- the same of the pool of no nodes
-module _ (t : Tree) (few : size t ≤ 512) where
-  pub blank-is-tree : isTree (store t 0 blank) (size t) (size t - 1) ≡ true
-  blank-is-tree = stored-is-tree t blank few long-blank
-
-  pub blank-resolves : (n : ℕ) → resolvedOf (store t 0 blank) (size t) (size t - 1) n ≡ formOf (evalTree t n)
-  blank-resolves n = stored-resolves t blank few long-blank n
-
-  pub blank-rates : ratedOf (store t 0 blank) (size t) (size t - 1) ≡ rangeOf (rateTree t)
-  blank-rates = stored-rates t blank few long-blank
-
-  pub blank-fits : (k : ℕ) → fitOf (store t 0 blank) (size t) (size t - 1) k ≡ fitting (fitsRange (rateTree t) k)
-  blank-fits k = stored-fits t blank few long-blank k
+  pub packed-fits : (k : ℕ) → fitOf (packed t) (packedSize t) (packedSize t - 1) k ≡ fitting (fitsRange (rateTree t) k)
+  packed-fits k =
+      fit-tree (packed t) (packedSize t) (packedSize t - 1) k packed-is-tree ∙ ap (λ (u : Tree). fitting (fitsRange (rateTree u) k)) packed-tree

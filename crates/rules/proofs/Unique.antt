@@ -7,15 +7,20 @@ use Rattle.promise.proofs.One.{One, OneLeft}
 use denote.Ref.{now}
 use borrow.Fn.Kinds.{endedOf}
 use Rattle.rules.specs.Pool.{Pool, pool}
-use Rattle.rules.proofs.operand.Reads as operand
-use Rattle.rules.proofs.operand.Kinds as operand-kinds
+use Rattle.rules.proofs.field.Reads as field
+use Rattle.rules.proofs.field.Kinds as field-kinds
+use Rattle.rules.proofs.place.Reads as place
+use Rattle.rules.proofs.place.Kinds as place-kinds
 use Rattle.rules.proofs.put_default.Reads as put-default
 use Rattle.rules.proofs.put_default.Kinds as put-default-kinds
 use Rattle.rules.proofs.put.Reads as put
 use Rattle.rules.proofs.put.Kinds as put-kinds
 
-pub operand-one : One 1 operand-kinds.ps operand-kinds.r operand.Post
-operand-one κs a u v x y p q = p ∙ sym q
+pub field-one : One 1 field-kinds.ps field-kinds.r field.Post
+field-one κs a u v x y p q = p ∙ sym q
+
+pub place-one : One 1 place-kinds.ps place-kinds.r place.Post
+place-one κs a u v x y p q = p ∙ sym q
 
 -- the arrays that are lent, as a pool
 abbrev pub put-left : (κs : Lfts 3) → AtExit (endedOf 3 put-kinds.ps put-kinds.r) κs → Pool

@@ -1,8 +1,10 @@
 pub mod Tree
+pub mod Operator
 pub mod Value
 pub mod Range
 pub mod Pool
 pub mod Store
+pub mod Pack
 pub mod Answer
 pub mod Reads
 pub mod Sound

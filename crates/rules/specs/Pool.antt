@@ -1,13 +1,25 @@
--- A rule as nodes in arrays of numbers: a code at each place, the places of its operands, and the value of an integer.
--- Document 01, "The record": what makes nodes no tree.
-use Prim.Native.Nat.{ℕ, zero, suc, _+_, _*_, _-_}
+-- A rule as nodes in arrays of numbers: a code at each place, two fields, and a value. The operands are places, of which the last is
+-- always the place before the node's own. These are the codes, in groups of 16:
+--
+--   0; 1               n; v
+--   16 + i; 32 + i     n op v; n % m op v
+--   48; 49; 64 + i     !b; b ? v : m; b op v
+--   80 + i; 96         x op b; x ? v : b
+--   112                x ? y : b
+--
+-- with v the value, m the first field, x and y the trees at the places that the fields name, b the tree at the place before, and op the
+-- operator of number i. A reader writes 0, 1, 48, 80 + i and 112, a node for each n, integer and operator; packing folds leaves into the
+-- others. Document 01, "The record": what makes nodes no tree, a code that is not among these first.
+use Prim.Native.Nat.{ℕ, zero, suc, _+_, _*_, _-_, _%_, _/_}
 use mathlib.Core.Bool.{Bool, true, false, not, _&&_}
 use mathlib.Core.List.{List, [], _∷_, _++_}
-use lib.ListN.{getD}
+use mathlib.Core.Option.{Option, none, some}
+use lib.ListN.{getD, length}
 use lib.Dec.{leb, ltb, eqb}
-use Rattle.rules.specs.Tree.{Tree, var, int, nay, bin, cond, Op, cmp, and, or, rem, eq, ne, ge, le, gt, lt}
+use Rattle.rules.specs.Tree.{Tree, var, int, nay, bin, cond, Op, rem}
+use Rattle.rules.specs.Operator.{operators, opOf}
 
--- the operands of the node at place p are at 3 * p, 3 * p + 1, 3 * p + 2 of places
+-- the fields of the node at place p are at 2 * p and 2 * p + 1 of places
 pub record Pool : Type 0 where
   pub codes : List ℕ
   pub places : List ℕ
@@ -19,41 +31,51 @@ pool c p v = record { codes = c; places = p; values = v }
 abbrev pub code : Pool → ℕ → ℕ
 code P p = getD (P .codes) p 0
 
-abbrev pub operand : Pool → ℕ → ℕ → ℕ
-operand P p j = getD (P .places) (3 * p + j) 0
+abbrev pub field : Pool → ℕ → ℕ → ℕ
+field P p j = getD (P .places) (2 * p + j) 0
 
 abbrev pub value : Pool → ℕ → ℕ
 value P p = getD (P .values) p 0
 
--- the codes: 0 n, 1 an integer, 2 !, 3 ?:, and from 4 on the binary operators in this order
-abbrev pub operators : List Op
-operators = cmp eq ∷ cmp ne ∷ cmp ge ∷ cmp le ∷ cmp gt ∷ cmp lt ∷ and ∷ or ∷ rem ∷ []
+-- how many codes of each group are listed
+abbrev pub rows : List ℕ
+rows = 2 ∷ length operators ∷ length operators ∷ 2 ∷ length operators ∷ length operators ∷ 1 ∷ 1 ∷ []
 
 abbrev pub known : ℕ → Bool
-known c = ltb c 13
+known c = ltb (c % 16) (getD rows (c / 16) 0)
 
-unfoldable pub opAt : List Op → ℕ → Op
-opAt [] i = rem
-opAt (op ∷ ops) zero = op
-opAt (op ∷ ops) (suc i) = opAt ops i
+-- operator number i on two trees
+abbrev pub joined : Option Op → Tree → Tree → Tree
+joined (some op) x y = bin op x y
+joined none x y = var
 
-unfoldable pub opOf : ℕ → Op
-unfolding opAt
-opOf c = opAt operators (c - 4)
-
--- how many operands a code has
-abbrev pub arity : ℕ → ℕ
-arity c = elim (ltb c 2) [ true ↦ 0 | false ↦ elim (eqb c 2) [ true ↦ 1 | false ↦ elim (eqb c 3) [ true ↦ 3 | false ↦ 2 ] ] ]
-
--- the tree of a node, by its code and its operands' trees
-abbrev pub build : ℕ → ℕ → Tree → Tree → Tree → Tree
-build c v x y z =
-    elim (eqb c 0) [
-      | true ↦ var
-      | false ↦ elim (eqb c 1) [
-        | true ↦ int v
-        | false ↦ elim (eqb c 2) [ true ↦ nay x | false ↦ elim (eqb c 3) [ true ↦ cond x y z | false ↦ bin (opOf c) x y ] ]
+-- a node with no operand, by its code; with one, which is b; with two, which are x and b
+abbrev pub leaf : ℕ → ℕ → ℕ → Tree
+leaf c m v =
+    elim (ltb c 16) [
+      | true ↦ elim (eqb c 0) [ true ↦ var | false ↦ int v ]
+      | false ↦ elim (ltb c 32) [
+        | true ↦ joined (opOf (c % 16)) var (int v)
+        | false ↦ joined (opOf (c % 16)) (bin rem var (int m)) (int v)
       ]
+    ]
+
+abbrev pub one : ℕ → ℕ → ℕ → Tree → Tree
+one c m v b =
+    elim (eqb c 48) [
+      | true ↦ nay b
+      | false ↦ elim (ltb c 64) [ true ↦ cond b (int v) (int m) | false ↦ joined (opOf (c % 16)) b (int v) ]
+    ]
+
+abbrev pub two : ℕ → ℕ → Tree → Tree → Tree
+two c v x b = elim (ltb c 96) [ true ↦ joined (opOf (c % 16)) x b | false ↦ cond x (int v) b ]
+
+-- the tree of a node
+abbrev pub build : ℕ → ℕ → ℕ → Tree → Tree → Tree → Tree
+build c m v x y b =
+    elim (ltb c 48) [
+      | true ↦ leaf c m v
+      | false ↦ elim (ltb c 80) [ true ↦ one c m v b | false ↦ elim (ltb c 112) [ true ↦ two c v x b | false ↦ cond x y b ] ]
     ]
 
 -- an operand place that is not below its parent's holds no tree
@@ -61,7 +83,8 @@ abbrev pub below : (ℕ → Tree) → ℕ → ℕ → Tree
 below sub p q = elim (ltb q p) [ true ↦ sub q | false ↦ var ]
 
 abbrev pub node : Pool → ℕ → (ℕ → Tree) → Tree
-node P p sub = build (code P p) (value P p) (below sub p (operand P p 0)) (below sub p (operand P p 1)) (below sub p (operand P p 2))
+node P p sub =
+    build (code P p) (field P p 0) (value P p) (below sub p (field P p 0)) (below sub p (field P p 1)) (below sub p (p - 1))
 
 unfoldable pub treeAt : ℕ → Pool → ℕ → Tree
 treeAt zero P p = var
@@ -72,20 +95,24 @@ unfoldable pub treeOf : Pool → ℕ → Tree
 unfolding treeAt
 treeOf P p = treeAt (suc p) P p
 
--- the operand places that a code uses, the last first
-unfoldable pub operandsTo : Pool → ℕ → ℕ → List ℕ
-operandsTo P p zero = []
-operandsTo P p (suc j) = operand P p j ∷ operandsTo P p j
+-- how many fields of a node with operands are places
+abbrev pub fields : ℕ → ℕ
+fields c = elim (ltb c 80) [ true ↦ 0 | false ↦ elim (ltb c 112) [ true ↦ 1 | false ↦ 2 ] ]
 
+unfoldable pub operandsTo : Pool → ℕ → ℕ → List ℕ
+operandsTo P p zero = (p - 1) ∷ []
+operandsTo P p (suc j) = field P p j ∷ operandsTo P p j
+
+-- the operands of the node at p
 unfoldable pub operands : Pool → ℕ → List ℕ
 unfolding operandsTo
-operands P p = operandsTo P p (arity (code P p))
+operands P p = elim (ltb (code P p) 48) [ true ↦ [] | false ↦ operandsTo P p (fields (code P p)) ]
 
 unfoldable pub allBelow : ℕ → List ℕ → Bool
 allBelow p [] = true
 allBelow p (q ∷ qs) = ltb q p && allBelow p qs
 
--- the operand places of all places below k
+-- those of all places below k
 unfoldable pub used : Pool → ℕ → List ℕ
 unfolding operands
 used P zero = []

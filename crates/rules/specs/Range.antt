@@ -10,19 +10,19 @@ abbrev pub pickR : Bool → Rating → Rating → Rating
 pickR true r s = r
 pickR false r s = s
 
--- the table's row of a binary operator: h is the left operand's highest, l and m the right one's lowest and highest
-unfoldable pub opRange : Op → ℕ → ℕ → ℕ → Rating
-opRange (cmp k) h l m = Range 0 1
-opRange and h l m = Range 0 1
-opRange or h l m = Range 0 1
-opRange rem h l m = pickR (eqb l 0) Unrated (Range 0 (min h (m - 1)))
+-- the table's row of a binary operator: k and h are the left operand's lowest and highest, l and m the right one's
+unfoldable pub opRange : Op → ℕ → ℕ → ℕ → ℕ → Rating
+opRange (cmp c) k h l m = Range 0 1
+opRange and k h l m = Range 0 1
+opRange or k h l m = Range 0 1
+opRange rem k h l m = pickR (eqb l 0) Unrated (Range 0 (min h (m - 1)))
 
 unfoldable pub notRange : Rating → Rating
 notRange (Range l h) = Range 0 1
 notRange Unrated = Unrated
 
 unfoldable pub binRange : Op → Rating → Rating → Rating
-binRange op (Range k h) (Range l m) = opRange op h l m
+binRange op (Range k h) (Range l m) = opRange op k h l m
 binRange op (Range k h) Unrated = Unrated
 binRange op Unrated r = Unrated
 

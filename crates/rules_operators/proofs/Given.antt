@@ -2,6 +2,7 @@
 -- of its own.
 use mathlib.Core.Path.{_≡_, refl, sym, _∙_}
 use mathlib.Core.Bool.{Bool, true, false}
+use mathlib.Core.Option.{some}
 use Prim.Native.Nat.{ℕ}
 use native.Mathlib.Omega.{arith}
 use lib.Dec.{eqb}
@@ -9,9 +10,10 @@ use borrow.Author.Tests.{eq-eqb, ne-eqb}
 use Rattle.rules.specs.declared.Value.{Value}
 use Rattle.rules.specs.declared.Value.the-variants.{Is, ZeroModulus}
 use Rattle.rules.specs.Tree.{Op}
+use Rattle.rules.specs.Operator.{opOf, Named}
 use Rattle.rules.specs.Value.{truth, binary, negated, chosen}
 use Rattle.rules.proofs.Operators.{never}
-use Rattle.rules_operators.specs.Operator.{settled, Gives}
+use Rattle.rules_operators.specs.Operator.{settled, Gives, Applies}
 use Rattle.rules_operators.proofs.Operators.{settled-any, unsettled}
 
 no-failure : {A : Type 0} {x : ℕ} → Is x ≡ ZeroModulus → A
@@ -23,18 +25,23 @@ number e d = rw e record { given = (d, refl) }
 pub failed : {v : Value} {b c : Bool} {r : ℕ} → v ≡ ZeroModulus → c ≡ true → Gives v b c r
 failed e d = rw e record { given = d }
 
--- what `apply` promises of each
-pub is-number : {v : Value} {b : Bool} {x r : ℕ} → v ≡ Is x → r ≡ x → Gives v b b r × (v ≡ ZeroModulus → r ≡ 0)
-is-number e d = (number e d, λ f. no-failure (sym e ∙ f))
+-- what `apply` promises, by the operator of the number
+pub applied-number : {i x y r : ℕ} {b : Bool} → ((op : Op) → opOf i ≡ some op → binary op (Is x) (Is y) ≡ Is r) → Applies i x y b b r
+applied-number w = record { gives = λ op e. number (w op e) refl; failed = λ op e f. no-failure (sym (w op e) ∙ f) }
 
-pub is-zero : {v : Value} {b c : Bool} {r : ℕ} → v ≡ ZeroModulus → c ≡ true → r ≡ 0 → Gives v b c r × (v ≡ ZeroModulus → r ≡ 0)
-is-zero e d f = (failed e d, λ g. f)
+pub applied-zero : {i x y r : ℕ} {b c : Bool} → ((op : Op) → opOf i ≡ some op → binary op (Is x) (Is y) ≡ ZeroModulus) → c ≡ true → r ≡ 0
+    → Applies i x y b c r
+applied-zero w d f = record { gives = λ op e. failed (w op e) d; failed = λ op e g. f }
 
 -- and that it fixes the number and the flag
-pub one-given : (v : Value) {b c d : Bool} {r s : ℕ} → Gives v b c r × (v ≡ ZeroModulus → r ≡ 0) → Gives v b d s × (v ≡ ZeroModulus → s ≡ 0)
+one-given : (v : Value) {b c d : Bool} {r s : ℕ} → Gives v b c r → (v ≡ ZeroModulus → r ≡ 0) → Gives v b d s → (v ≡ ZeroModulus → s ≡ 0)
     → (r ≡ s) × (c ≡ d)
-one-given (Is x) g h = (g .0 .given .0 ∙ sym (h .0 .given .0), g .0 .given .1 ∙ sym (h .0 .given .1))
-one-given ZeroModulus g h = (g .1 refl ∙ sym (h .1 refl), g .0 .given ∙ sym (h .0 .given))
+one-given (Is x) g m h n = (g .given .0 ∙ sym (h .given .0), g .given .1 ∙ sym (h .given .1))
+one-given ZeroModulus g m h n = (m refl ∙ sym (n refl), g .given ∙ sym (h .given))
+
+pub one-applied : {i x y r s : ℕ} {b c d : Bool} → Named i → Applies i x y b c r → Applies i x y b d s → (r ≡ s) × (c ≡ d)
+one-applied k g h =
+    one-given _ (g .gives (k .op) (k .is)) (g .failed (k .op) (k .is)) (h .gives (k .op) (k .is)) (h .failed (k .op) (k .is))
 
 -- a flag that is set stays set
 stays : (v : Value) {b c : Bool} {r : ℕ} → b ≡ true → Gives v b c r → c ≡ true

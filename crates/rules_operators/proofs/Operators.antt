@@ -1,51 +1,64 @@
--- Laws of the binary operators by their codes, as an evaluation asks for them.
-use mathlib.Core.Path.{_≡_, refl}
+-- Laws of the binary operators by their numbers, as an evaluation asks for them.
+use mathlib.Core.Path.{_≡_, refl, sym, _∙_}
 use mathlib.Core.Bool.{true, false}
-use Prim.Native.Nat.{ℕ, _-_, _<_}
+use mathlib.Core.Option.{Option, none, some}
+use Prim.Native.Nat.{ℕ, _<_}
 use native.Mathlib.Omega.{arith}
 use lib.Dec.{eqb}
 use borrow.Author.Tests.{not-true, not-false}
 use Rattle.rules.specs.declared.Value.{Value}
 use Rattle.rules.specs.declared.Value.the-variants.{Is, ZeroModulus}
-use Rattle.rules.specs.Tree.{Op, cmp, and, or, rem, eq}
+use Rattle.rules.specs.Tree.{Op, cmp, and, or, rem, Cmp, eq, ne, ge, le, gt, lt}
 use Rattle.rules.specs.Value.{binary, truthV}
-use Rattle.rules.specs.Pool.{opOf}
-use Rattle.rules.proofs.Operators.{never, each, by-code}
-use Rattle.rules_operators.specs.Operator.{settled, cmpIn, cmpOf}
+use Rattle.rules.specs.Operator.{opOf, opAt, opCode}
+use Rattle.rules.proofs.Operators.{never, code-is}
+use Rattle.rules_operators.specs.Operator.{settled, settledBy}
 
-pub op-cmp : (c : ℕ) → c < 10 → opOf c ≡ cmp (cmpOf c)
-unfolding cmpOf
-op-cmp c h =
-    by-code (λ i op. i < 6 → op ≡ cmp (cmpIn op)) (λ k i j l. refl) (λ l. absurd (omega arith)) (λ l. absurd (omega arith))
-    (λ i j l. absurd (omega arith)) c (omega arith)
+pub same-cmp : {j k : Cmp} → some (cmp j) ≡ some (cmp k) → j ≡ k
+same-cmp e = cc
 
--- a code that is no other comparison's reads as ==
-pub cmp-other : (c : ℕ) → (c ≡ 5 → ⊥) → (c ≡ 6 → ⊥) → (c ≡ 7 → ⊥) → (c ≡ 8 → ⊥) → (c ≡ 9 → ⊥) → cmpOf c ≡ eq
-unfolding cmpOf opOf
-cmp-other c h1 h2 h3 h4 h5 =
-    each
-    (λ i op. (i ≡ 1 → ⊥) → (i ≡ 2 → ⊥) → (i ≡ 3 → ⊥) → (i ≡ 4 → ⊥) → (i ≡ 5 → ⊥) → cmpIn op ≡ eq)
-    (λ p q r s t. refl)
-    (λ p q r s t. absurd (p refl))
-    (λ p q r s t. absurd (q refl))
-    (λ p q r s t. absurd (r refl))
-    (λ p q r s t. absurd (s refl))
-    (λ p q r s t. absurd (t refl))
-    (λ p q r s t. refl)
-    (λ p q r s t. refl)
-    (λ i j p q r s t. refl)
-    (c - 4)
-    (omega arith)
-    (omega arith)
-    (omega arith)
-    (omega arith)
-    (omega arith)
+-- a comparison whose number is no other's is ==
+pub cmp-rest : (i : ℕ) (k : Cmp) → opOf i ≡ some (cmp k) → (i ≡ 1 → ⊥) → (i ≡ 2 → ⊥) → (i ≡ 3 → ⊥) → (i ≡ 4 → ⊥) → (i ≡ 5 → ⊥) → k ≡ eq
+unfolding opCode
+cmp-rest i eq e h1 h2 h3 h4 h5 = refl
+cmp-rest i ne e h1 h2 h3 h4 h5 = absurd (h1 (sym (code-is i (cmp ne) e)))
+cmp-rest i ge e h1 h2 h3 h4 h5 = absurd (h2 (sym (code-is i (cmp ge) e)))
+cmp-rest i le e h1 h2 h3 h4 h5 = absurd (h3 (sym (code-is i (cmp le) e)))
+cmp-rest i gt e h1 h2 h3 h4 h5 = absurd (h4 (sym (code-is i (cmp gt) e)))
+cmp-rest i lt e h1 h2 h3 h4 h5 = absurd (h5 (sym (code-is i (cmp lt) e)))
 
-pub settled-other : (c x : ℕ) → (c ≡ 10 → ⊥) → (c ≡ 11 → ⊥) → settled (opOf c) x ≡ false
-unfolding settled
-settled-other c x a o =
-    by-code (λ i op. (i ≡ 6 → ⊥) → (i ≡ 7 → ⊥) → settled op x ≡ false) (λ k i j p q. refl) (λ p q. absurd (p refl)) (λ p q. absurd (q refl))
-    (λ i j p q. refl) c (omega arith) (omega arith)
+-- the numbers below 6 are the comparisons'
+pub record IsCmp (op : Op) : Type 0 where
+  pub which : Cmp
+  pub is : op ≡ cmp which
+
+pub low-cmp : (i : ℕ) (op : Op) → opOf i ≡ some op → i < 6 → IsCmp op
+unfolding opCode
+low-cmp i (cmp k) e h = record { which = k; is = refl }
+low-cmp i and e h = let d = code-is i and e in absurd (omega arith)
+low-cmp i or e h = let d = code-is i or e in absurd (omega arith)
+low-cmp i rem e h = let d = code-is i rem e in absurd (omega arith)
+
+-- those above have one operator each
+pub is-and : (i : ℕ) (op : Op) → opOf i ≡ some op → i ≡ 6 → op ≡ and
+unfolding opOf opAt
+is-and i op e h = let d : opOf 6 ≡ some op = rw h at e in cc
+
+pub is-or : (i : ℕ) (op : Op) → opOf i ≡ some op → i ≡ 7 → op ≡ or
+unfolding opOf opAt
+is-or i op e h = let d : opOf 7 ≡ some op = rw h at e in cc
+
+-- only && and || are settled by their left operand
+pub settled-rest : (i x : ℕ) → (i ≡ 6 → ⊥) → (i ≡ 7 → ⊥) → settledBy (opOf i) x ≡ false
+unfolding settled opCode
+settled-rest i x a o = go (opOf i) refl
+  where
+    go : (p : Option Op) → opOf i ≡ p → settledBy p x ≡ false
+    go none e = refl
+    go (some (cmp k)) e = refl
+    go (some and) e = absurd (a (sym (code-is i and e)))
+    go (some or) e = absurd (o (sym (code-is i or e)))
+    go (some rem) e = refl
 
 -- what the left operand settles, no right operand changes
 pub settled-any : (op : Op) (x : ℕ) (v : Value) → settled op x ≡ true → binary op (Is x) v ≡ binary op (Is x) (Is 0)

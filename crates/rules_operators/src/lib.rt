@@ -1,10 +1,9 @@
 // A rule's operators on numbers. A port of plurals.rs: `resolve`, the arms of `Ast::Op`.
 use rules::node;
 ghost use mathlib.Core.Path.{_≡_};
-ghost use Rattle.rules.specs.declared.Value.the-variants as value;
-ghost use Rattle.rules.specs.Value.{truth, compared, binary};
-ghost use Rattle.rules.specs.Pool.{opOf};
-ghost use Rattle.rules_operators.specs.Operator.{settled, cmpOf, Gives};
+ghost use Rattle.rules.specs.Value.{truth};
+ghost use Rattle.rules.specs.Operator.{opOf, Named};
+ghost use Rattle.rules_operators.specs.Operator.{settledBy, Compares, Applies};
 
 // A truth as a number.
 pub fn truth(b: bool) -> u64
@@ -14,10 +13,10 @@ pub fn truth(b: bool) -> u64
 }
 
 // Whether the left operand alone settles a binary operator.
-pub fn settles(code: u8, x: u64) -> bool
-    ensures { λ r. ⌜ r ≡ settled (opOf code) x ⌝ }
+pub fn settles(op: u8, x: u64) -> bool
+    ensures { λ r. ⌜ r ≡ settledBy (opOf op) x ⌝ }
 {
-    match code {
+    match op {
         node::AND => x == 0,
         node::OR => x != 0,
         _ => false,
@@ -25,10 +24,10 @@ pub fn settles(code: u8, x: u64) -> bool
 }
 
 // A comparison of two numbers.
-fn compares(code: u8, x: u64, y: u64) -> bool
-    ensures { λ r. ⌜ r ≡ compared (cmpOf code) x y ⌝ }
+fn compares(op: u8, x: u64, y: u64) -> bool
+    ensures { λ r. ⌜ Compares op x y r ⌝ }
 {
-    match code {
+    match op {
         node::NOT_EQUAL => x != y,
         node::GREATER_OR_EQUAL => x >= y,
         node::SMALLER_OR_EQUAL => x <= y,
@@ -38,21 +37,21 @@ fn compares(code: u8, x: u64, y: u64) -> bool
     }
 }
 
-// A binary operator on two numbers. A remainder by zero is told by the flag, and the number is 0 and of no use then.
-pub fn apply(code: u8, x: u64, y: u64, zero: &mut bool) -> u64
-    ensures gives { λ r. ⌜ Gives (binary (opOf code) (value.Is x) (value.Is y)) (now (zero .entry)) (now (zero .exit)) r ⌝ }
-    ensures failed { λ r. ⌜ (binary (opOf code) (value.Is x) (value.Is y) ≡ value.ZeroModulus → r ≡ 0) ⌝ }
+// A binary operator of the table on two numbers. A remainder by zero is told by the flag, and the number is 0 and of no use then.
+pub fn apply(op: u8, x: u64, y: u64, zero: &mut bool) -> u64
+    requires { ⌜ Named op ⌝ }
+    ensures { λ r. ⌜ Applies op x y (now (zero .entry)) (now (zero .exit)) r ⌝ }
 {
-    if code < node::AND {
-        return truth(compares(code, x, y));
+    if op < node::AND {
+        return truth(compares(op, x, y));
     }
-    if code == node::AND {
+    if op == node::AND {
         if x == 0 {
             return 0;
         }
         return truth(y != 0);
     }
-    if code == node::OR {
+    if op == node::OR {
         if x == 0 {
             return truth(y != 0);
         }

@@ -13,27 +13,31 @@ use Rattle.rules.specs.declared.Fit.the-variants as fit
 use Rattle.rules.specs.declared.Fit.the-variants.{Yes, No}
 use Rattle.rules.specs.Value.{binary, negated, chosen, truthV, evalTree}
 use Rattle.rules.specs.Range.{opRange, binRange, condRange, notRange, rateTree, fitsRange}
-use Rattle.rules.specs.Pool.{Pool, pool, opAt, opOf, treeAt, treeOf, operandsTo, operands, allBelow, used, member, distinct, shaped, isTree}
+use Rattle.rules.specs.Operator.{opAt, opOf}
+use Rattle.rules.specs.Pool.{Pool, pool, treeAt, treeOf, operandsTo, operands, allBelow, used, member, distinct, shaped, isTree}
 use Rattle.rules.specs.Answer.{resolvedOf, ratedOf, fitOf}
 
--- a node over two, with the three values
-abbrev over : ℕ → ℕ → ℕ → ℕ → ℕ → ℕ → Pool
-over c d e x y z = pool (c ∷ d ∷ e ∷ []) (0 ∷ 0 ∷ 0 ∷ 0 ∷ 0 ∷ 0 ∷ 0 ∷ 1 ∷ 0 ∷ []) (x ∷ y ∷ z ∷ [])
+-- a node alone, with m in its first field and the value v, and such a node over n
+abbrev alone : ℕ → ℕ → ℕ → Pool × ℕ × ℕ
+alone c m v = (pool (c ∷ []) (m ∷ 0 ∷ []) (v ∷ []), 1, 0)
 
--- an operator on n and an integer, and on an integer and n
-abbrev count-first : ℕ → ℕ → Pool
-count-first c x = over 0 1 c 0 x 0
+abbrev over : ℕ → ℕ → ℕ → Pool × ℕ × ℕ
+over c m v = (pool (0 ∷ c ∷ []) (0 ∷ 0 ∷ m ∷ 0 ∷ []) (0 ∷ v ∷ []), 2, 1)
 
-abbrev integer-first : ℕ → ℕ → Pool
-integer-first c x = over 1 0 c x 0 0
+-- one over n and the integer 5, and over 5 and n
+abbrev count-first : ℕ → ℕ → Pool × ℕ × ℕ
+count-first c v = (pool (0 ∷ 1 ∷ c ∷ []) (0 ∷ 0 ∷ 0 ∷ 0 ∷ 0 ∷ 0 ∷ []) (0 ∷ 5 ∷ v ∷ []), 3, 2)
 
--- n % (n ? 3 : 4), and 1 && 1 % 0
-abbrev choice : Pool
+abbrev integer-first : ℕ → Pool × ℕ × ℕ
+integer-first c = (pool (1 ∷ 0 ∷ c ∷ []) (0 ∷ 0 ∷ 0 ∷ 0 ∷ 0 ∷ 0 ∷ []) (5 ∷ 0 ∷ 0 ∷ []), 3, 2)
+
+-- n % (n ? 3 : 4), and 1 && 1 % 0, as a reader leaves them
+abbrev choice : Pool × ℕ × ℕ
 choice =
-    pool (0 ∷ 0 ∷ 1 ∷ 1 ∷ 3 ∷ 12 ∷ []) (0 ∷ 0 ∷ 0 ∷ 0 ∷ 0 ∷ 0 ∷ 0 ∷ 0 ∷ 0 ∷ 0 ∷ 0 ∷ 0 ∷ 1 ∷ 2 ∷ 3 ∷ 0 ∷ 4 ∷ 0 ∷ []) (0 ∷ 0 ∷ 3 ∷ 4 ∷ [])
+    (pool (0 ∷ 0 ∷ 1 ∷ 1 ∷ 112 ∷ 88 ∷ []) (0 ∷ 0 ∷ 0 ∷ 0 ∷ 0 ∷ 0 ∷ 0 ∷ 0 ∷ 1 ∷ 2 ∷ 0 ∷ 0 ∷ []) (0 ∷ 0 ∷ 3 ∷ 4 ∷ []), 6, 5)
 
-abbrev reached : Pool
-reached = pool (1 ∷ 1 ∷ 1 ∷ 12 ∷ 10 ∷ []) (0 ∷ 0 ∷ 0 ∷ 0 ∷ 0 ∷ 0 ∷ 0 ∷ 0 ∷ 0 ∷ 1 ∷ 2 ∷ 0 ∷ 0 ∷ 3 ∷ 0 ∷ []) (1 ∷ 1 ∷ 0 ∷ [])
+abbrev reached : Pool × ℕ × ℕ
+reached = (pool (1 ∷ 1 ∷ 1 ∷ 88 ∷ 86 ∷ []) (0 ∷ 0 ∷ 0 ∷ 0 ∷ 0 ∷ 0 ∷ 1 ∷ 0 ∷ 0 ∷ 0 ∷ []) (1 ∷ 1 ∷ 0 ∷ []), 5, 4)
 
 -- the pool, its count and its root; the range; a number, and whether it fits it; the values at 0, 1 and 2
 abbrev Row : Type 0
@@ -41,24 +45,34 @@ Row = (Pool × ℕ × ℕ) × Rated × (ℕ × Fit) × Resolved × Resolved × R
 
 abbrev rows : List Row
 rows =
-    ((count-first 4 1, 3, 2), Range 0 1, (2, Yes), Form 0, Form 1, Form 0)
-    ∷ ((count-first 5 1, 3, 2), Range 0 1, (2, Yes), Form 1, Form 0, Form 1)
-    ∷ ((count-first 6 1, 3, 2), Range 0 1, (1, No), Form 0, Form 1, Form 1)
-    ∷ ((count-first 7 1, 3, 2), Range 0 1, (0, No), Form 1, Form 1, Form 0)
-    ∷ ((count-first 8 1, 3, 2), Range 0 1, (2, Yes), Form 0, Form 0, Form 1)
-    ∷ ((count-first 9 1, 3, 2), Range 0 1, (2, Yes), Form 1, Form 0, Form 0)
-    ∷ ((count-first 10 2, 3, 2), Range 0 1, (2, Yes), Form 0, Form 1, Form 1)
-    ∷ ((count-first 11 0, 3, 2), Range 0 1, (2, Yes), Form 0, Form 1, Form 1)
-    ∷ ((count-first 12 10, 3, 2), Range 0 9, (10, Yes), Form 0, Form 1, Form 2)
-    ∷ ((integer-first 12 5, 3, 2), Unrated, (5, No), resolved.ZeroModulus, Form 0, Form 1)
-    ∷ ((choice, 6, 5), Range 0 3, (4, Yes), Form 0, Form 1, Form 2)
-    ∷ ((reached, 5, 4), Unrated, (2, No), resolved.ZeroModulus, resolved.ZeroModulus, resolved.ZeroModulus)
-    ∷ ((over 0 0 2 0 0 0, 3, 2), Range 0 1, (2, Yes), Form 1, Form 0, Form 0)
-    -- an integer alone, and n alone, each with nodes beside its tree
-    ∷ ((over 0 0 1 0 0 7, 3, 2), Range 7 7, (7, No), Form 7, Form 7, Form 7)
-    ∷ ((count-first 4 1, 3, 0), Range 0 18446744073709551615, (18446744073709551615, No), Form 0, Form 1, Form 2)
+    -- n; an integer; each operator on n and an integer
+    (alone 0 0 7, Range 0 18446744073709551615, (18446744073709551615, No), Form 0, Form 1, Form 2)
+    ∷ (alone 1 0 7, Range 7 7, (7, No), Form 7, Form 7, Form 7)
+    ∷ (alone 16 0 1, Range 0 1, (2, Yes), Form 0, Form 1, Form 0)
+    ∷ (alone 17 0 1, Range 0 1, (2, Yes), Form 1, Form 0, Form 1)
+    ∷ (alone 18 0 1, Range 0 1, (1, No), Form 0, Form 1, Form 1)
+    ∷ (alone 19 0 1, Range 0 1, (0, No), Form 1, Form 1, Form 0)
+    ∷ (alone 20 0 1, Range 0 1, (2, Yes), Form 0, Form 0, Form 1)
+    ∷ (alone 21 0 1, Range 0 1, (2, Yes), Form 1, Form 0, Form 0)
+    ∷ (alone 22 0 2, Range 0 1, (2, Yes), Form 0, Form 1, Form 1)
+    ∷ (alone 23 0 0, Range 0 1, (2, Yes), Form 0, Form 1, Form 1)
+    ∷ (alone 24 0 10, Range 0 9, (10, Yes), Form 0, Form 1, Form 2)
+    -- n % 2 != 1; n % 0 == 0; n % 9 % 2
+    ∷ (alone 33 2 1, Range 0 1, (2, Yes), Form 1, Form 0, Form 1)
+    ∷ (alone 32 0 0, Unrated, (2, No), resolved.ZeroModulus, resolved.ZeroModulus, resolved.ZeroModulus)
+    ∷ (alone 40 9 2, Range 0 1, (2, Yes), Form 0, Form 1, Form 0)
+    -- over n: !; ? 3 : 8; % 2
+    ∷ (over 48 8 3, Range 0 1, (2, Yes), Form 1, Form 0, Form 0)
+    ∷ (over 49 8 3, Range 3 8, (9, Yes), Form 8, Form 3, Form 3)
+    ∷ (over 72 8 2, Range 0 1, (2, Yes), Form 0, Form 1, Form 0)
+    -- n < 5; n ? 3 : 5; 5 % n
+    ∷ (count-first 85 3, Range 0 1, (2, Yes), Form 1, Form 1, Form 1)
+    ∷ (count-first 96 3, Range 3 5, (5, No), Form 5, Form 3, Form 3)
+    ∷ (integer-first 88, Unrated, (5, No), resolved.ZeroModulus, Form 0, Form 1)
+    ∷ (choice, Range 0 3, (4, Yes), Form 0, Form 1, Form 2)
+    ∷ (reached, Unrated, (2, No), resolved.ZeroModulus, resolved.ZeroModulus, resolved.ZeroModulus)
     -- no tree: an unknown code
-    ∷ ((count-first 13 1, 3, 2), rated.NoTree, (2, fit.NoTree), resolved.NoTree, resolved.NoTree, resolved.NoTree)
+    ∷ (alone 25 0 1, rated.NoTree, (2, fit.NoTree), resolved.NoTree, resolved.NoTree, resolved.NoTree)
     ∷ []
 
 abbrev computed : Row → Row

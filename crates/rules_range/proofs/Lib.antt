@@ -1,3 +1,3 @@
-pub mod Ranges
+mod Ranges
 pub mod Unique
 pub mod Cases

@@ -2,15 +2,18 @@
 use rules::Fit;
 use rules::Rated;
 use rules::Rating;
+use rules::field;
 use rules::node;
-use rules::operand;
+use rules::place;
 ghost use mathlib.Core.Path.{_≡_};
-ghost use Prim.Native.Nat.{_+_, _<_, _≤_, _*_, min, max};
+ghost use Prim.Native.Nat.{_+_, _-_, _<_, _≤_, _*_, min, max};
 ghost use lib.ListN.{getD};
-ghost use Rattle.rules.specs.Range.{opRange, rateTree};
-ghost use Rattle.rules.specs.Pool.{pool, opOf, treeOf};
+ghost use Rattle.rules.specs.declared.Rating.the-variants as rating;
+ghost use Rattle.rules.specs.Range.{notRange, condRange, rateTree};
+ghost use Rattle.rules.specs.Pool.{pool, treeOf};
 ghost use Rattle.rules.specs.Sound.{Sound};
 ghost use Rattle.rules.specs.Answer.{ratedOf, fitOf};
+ghost use Rattle.rules_range.specs.Private.{Ranges, Joins};
 
 // The largest count, 2^64 - 1.
 const LARGEST: u64 = 0xffff_ffff_ffff_ffff;
@@ -27,24 +30,84 @@ fn most(x: u64, y: u64) -> u64
     if x < y { y } else { x }
 }
 
-// The range of a binary operator, by the highest of the left operand and the range of the right.
-fn ranged(code: u8, h: u64, l: u64, m: u64) -> Rating
-    requires { ⌜ l ≤ m ⌝ }
-    ensures { λ r. ⌜ r ≡ opRange (opOf code) h l m ⌝ }
+// One less, and 0 for 0.
+fn less(x: u64) -> u64
+    ensures { λ r. ⌜ r ≡ x - 1 ⌝ }
 {
-    if code < node::MODULO {
+    if x == 0 {
+        return 0;
+    }
+    x - 1
+}
+
+// The range of a binary operator on a left operand from k to h and a right one from l to m. The operators before % yield truths.
+fn ranged(op: u8, k: u64, h: u64, l: u64, m: u64) -> Rating
+    ensures { λ r. ⌜ Ranges op k h l m r ⌝ }
+{
+    if op < node::MODULO {
         return Rating::Range(0, 1);
     }
     if l == 0 {
         return Rating::Unrated;
     }
-    Rating::Range(0, least(h, m - 1))
+    Rating::Range(0, least(h, less(m)))
+}
+
+// The range of a binary operator, by its operands'.
+fn binary(op: u8, left: Rating, right: Rating) -> Rating
+    ensures { λ r. ⌜ Joins op left right r ⌝ }
+{
+    let Rating::Range(k, h) = left else {
+        return Rating::Unrated;
+    };
+    let Rating::Range(l, m) = right else {
+        return Rating::Unrated; // reached or not
+    };
+    ranged(op, k, h, l, m)
+}
+
+fn negation(operand: Rating) -> Rating
+    ensures { λ r. ⌜ r ≡ notRange operand ⌝ }
+{
+    let Rating::Range(_, _) = operand else {
+        return Rating::Unrated;
+    };
+    Rating::Range(0, 1)
+}
+
+fn ternary(first: Rating, second: Rating, third: Rating) -> Rating
+    ensures { λ r. ⌜ r ≡ condRange first second third ⌝ }
+{
+    let Rating::Range(_, _) = first else {
+        return Rating::Unrated;
+    };
+    let Rating::Range(k, h) = second else {
+        return Rating::Unrated;
+    };
+    let Rating::Range(l, m) = third else {
+        return Rating::Unrated;
+    };
+    Rating::Range(least(k, l), most(h, m))
+}
+
+fn integer(x: u64) -> Rating
+    ensures { λ r. ⌜ r ≡ rating.Range x x ⌝ }
+{
+    Rating::Range(x, x)
+}
+
+// The integer in the first field of the node at a place.
+fn small<'a>(places: &'a [u16; 1024], at: usize) -> Rating
+    requires { ⌜ at < 512 ⌝ }
+    ensures { λ r. ⌜ r ≡ rating.Range (getD (now (places .entry)) (2 * at + 0) 0) (getD (now (places .entry)) (2 * at + 0) 0) ⌝ }
+{
+    integer(field(places, at, 0) as u64)
 }
 
 // The range of the tree at a place.
 fn rate<'a>(
     codes: &'a [u8; 512],
-    places: &'a [u16; 1536],
+    places: &'a [u16; 1024],
     values: &'a [u64; 512],
     at: usize,
 ) -> Rating
@@ -52,38 +115,52 @@ fn rate<'a>(
     ensures { λ r. ⌜ r ≡ rateTree (treeOf (pool (now (codes .entry)) (now (places .entry)) (now (values .entry))) at) ⌝ }
 {
     let code = codes[at];
+    let count = Rating::Range(0, LARGEST);
     if code == node::N {
-        return Rating::Range(0, LARGEST);
+        return count;
     }
-    if code == node::INTEGER {
-        let x = values[at];
-        return Rating::Range(x, x);
+    let value = integer(values[at]);
+    if code < node::N_OP {
+        return value;
     }
-    let first = rate(codes, places, values, operand(places, at, 0));
-    let Rating::Range(_, h) = first else {
-        return Rating::Unrated;
-    };
+    if code < node::REST_OP {
+        return binary(code % 16, count, value);
+    }
+    if code < node::NOT {
+        return binary(
+            code % 16,
+            binary(node::MODULO, count, small(places, at)),
+            value,
+        );
+    }
+    let before = rate(codes, places, values, at - 1);
     if code == node::NOT {
-        return Rating::Range(0, 1);
+        return negation(before);
     }
-    let second = rate(codes, places, values, operand(places, at, 1));
-    let Rating::Range(l, m) = second else {
-        return Rating::Unrated; // reached or not
-    };
-    if code != node::TERNARY {
-        return ranged(code, h, l, m);
+    if code < node::VALUE_OP {
+        return ternary(before, value, small(places, at));
     }
-    let third = rate(codes, places, values, operand(places, at, 2));
-    let Rating::Range(p, q) = third else {
-        return Rating::Unrated;
-    };
-    Rating::Range(least(l, p), most(m, q))
+    if code < node::OP {
+        return binary(code % 16, before, value);
+    }
+    let first = rate(codes, places, values, place(places, at, 0));
+    if code < node::CHOICE {
+        return binary(code % 16, first, before);
+    }
+    if code < node::TERNARY {
+        return ternary(first, value, before);
+    }
+    ternary(
+        first,
+        rate(codes, places, values, place(places, at, 1)),
+        before,
+    )
 }
 
 // The range of a rule.
 pub fn rating_of<'a>(
     codes: &'a [u8; 512],
-    places: &'a [u16; 1536],
+    places: &'a [u16; 1024],
     values: &'a [u64; 512],
     count: usize,
     root: usize,
@@ -103,7 +180,7 @@ pub fn rating_of<'a>(
 // Whether a rule fits k: it is rated, and its highest is below k.
 pub fn fits<'a>(
     codes: &'a [u8; 512],
-    places: &'a [u16; 1536],
+    places: &'a [u16; 1024],
     values: &'a [u64; 512],
     count: usize,
     root: usize,

@@ -1,4 +1,3 @@
 mod Marks
-mod Groups
 pub mod Unique
 pub mod Cases

@@ -4,19 +4,24 @@ use mathlib.Core.Path.{_≡_, refl, sym, ap, _∙_}
 use mathlib.Core.Bool.{Bool, true, false, not, _&&_, and-false}
 use mathlib.Core.List.{List, [], _∷_, _++_}
 use mathlib.Core.Logic.{_⊎_, inl, inr, ⊎-elim}
-use Prim.Native.Nat.{ℕ, zero, suc, _+_, _<_, _≤_}
+use Prim.Native.Nat.{ℕ, zero, suc, _+_, _-_, _<_, _≤_, _%_, _/_}
 use native.Mathlib.Omega.{arith}
 use native.Mathlib.Nat.{eq-or-lt-of-le, le-of-suc-le-suc}
 use native.Mathlib.Numerals.{add-one}
-use lib.ListN.{length, getD, set, replicate, length-set, length-replicate, getD-replicate}
+use lib.ListN.{length, getD, set, replicate, length-set, length-replicate, getD-replicate, List·getD-eq-default}
 use lib.Seq.{getD-set-same, getD-set-other}
 use lib.Dec.{leb, ltb, eqb}
-use borrow.Author.Tests.{lt-ltb, le-ltb, le-leb, lt-leb, leb-true, leb-false, ltb-true, eqb-true, eqb-false, eq-eqb, ne-eqb}
-use Rattle.rules.specs.Pool.{Pool, pool, code, operand, known, arity, operandsTo, operands, allBelow, used, member, distinct, shaped, isTree}
+use borrow.Author.Tests.{lt-ltb, le-ltb, le-leb, lt-leb, leb-true, leb-false, ltb-true, eqb-true, eqb-false, eq-eqb, ne-eqb, not-false}
+use Rattle.rules.specs.Pool.{Pool, code, field, rows, known, fields, operandsTo, operands, allBelow, member, distinct, used, shaped, isTree}
 use Rattle.rules_tree.specs.Marks.{Unmarked, Marked, Took, Placed, Passes}
 use Rattle.rules.proofs.Operators.{never}
-use Rattle.rules.proofs.Places.{member-head, member-tail}
-use Rattle.rules.proofs.Trees.{both-left, both-right, just-two}
+use Rattle.rules.proofs.Trees.{both-left, both-right, member-head, member-tail}
+
+pub past-groups : (c : ℕ) → 128 ≤ c → known c ≡ false
+past-groups c h = rw (known, List·getD-eq-default {A = ℕ} rows 0 (past c h)) (le-ltb (c % 16) 0 (omega arith))
+  where
+    past : (c : ℕ) → 128 ≤ c → length rows ≤ c / 16
+    past c h = omega arith
 
 -- the answers of the test of one operand
 module _ {q x p : ℕ} (m : List ℕ) (e : q ≡ x) where
@@ -105,7 +110,7 @@ and-split true true a d e = e
 and-split true false a d e = refl
 and-split false k a d e = refl
 
--- the operands of a node before the j-th were taken
+-- the place before a node and the operands in its fields before the j-th were taken
 pub record Taken (P : Pool) (p j : ℕ) (l m : List ℕ) : Type 0 where
   pub lower : allBelow p (operandsTo P p j) ≡ true
   pub marked : Marked m (operandsTo P p j ++ used P p)
@@ -114,22 +119,67 @@ pub record Taken (P : Pool) (p j : ℕ) (l m : List ℕ) : Type 0 where
 
 module _ (P : Pool) (p : ℕ) where
   -- an operand that was not taken fails the node
-  operand-fails : (a j : ℕ) → j < a → (ltb (operand P p j) p && not (member (operand P p j) (operandsTo P p j ++ used P p))) ≡ false
+  operand-fails : (a j : ℕ) → j < a → (ltb (field P p j) p && not (member (field P p j) (operandsTo P p j ++ used P p))) ≡ false
       → (allBelow p (operandsTo P p a) && distinct (operandsTo P p a ++ used P p)) ≡ false
   unfolding operandsTo allBelow distinct
   operand-fails zero j h e = absurd (omega arith)
   operand-fails (suc a) j h e =
       ⊎-elim
-      (λ q. and-drop (ltb (operand P p a) p) _ (not (member (operand P p a) (operandsTo P p a ++ used P p))) _ (rw q at e))
-      (λ l. and-keep (ltb (operand P p a) p) _ (not (member (operand P p a) (operandsTo P p a ++ used P p))) _ (operand-fails a j l e))
+      (λ q. and-drop (ltb (field P p a) p) _ (not (member (field P p a) (operandsTo P p a ++ used P p))) _ (rw q at e))
+      (λ l. and-keep (ltb (field P p a) p) _ (not (member (field P p a) (operandsTo P p a ++ used P p))) _ (operand-fails a j l e))
       (eq-or-lt-of-le (le-of-suc-le-suc h))
 
-module _ (P : Pool) (p : ℕ) {l : List ℕ} where
-  pub none-taken : p < length l → Marked l (used P p) → Taken P p 0 l l
-  unfolding operandsTo allBelow
-  none-taken h k = record { lower = refl; marked = k; long = refl; room = omega arith }
+-- no node below k has taken the last place below it or one after that
+member-below : (q k : ℕ) (xs ys : List ℕ) → k ≤ q → allBelow k xs ≡ true → member q ys ≡ false → member q (xs ++ ys) ≡ false
+unfolding allBelow
+member-below q k [] ys h e f = f
+member-below q k (x ∷ xs) ys h e f =
+    let l = ltb-true x k (both-left (ltb x k) _ e) in
+    member-tail x q (xs ++ ys) (omega arith) ∙ member-below q k xs ys h (both-right (ltb x k) _ e) f
 
-  pub one-more : (j : ℕ) {m n : List ℕ} {r : Bool} → Taken P p j l m → Took (operand P p j) p m n r → r ≡ true → Taken P p (j + 1) l n
+free : (P : Pool) (q k : ℕ) → k ≤ q + 1 → shaped P k ≡ true → member q (used P k) ≡ false
+unfolding shaped used member
+free P q zero h e = refl
+free P q (suc k) h e =
+    let d = both-right (shaped P k) _ e in
+    member-below q k (operands P k) (used P k) (omega arith) (both-right (known (code P k)) _ d) (free P q k (omega arith) (both-left (shaped P k) _ e))
+
+-- at place 0 there is none before
+none-below : (P : Pool) (a : ℕ) → allBelow 0 (operandsTo P 0 a) ≡ false
+unfolding operandsTo allBelow
+none-below P zero = refl
+none-below P (suc a) = rw (le-ltb (field P 0 a) 0 (omega arith))
+
+module _ (P : Pool) (p : ℕ) where
+  has-operands : 47 < code P p → operands P p ≡ operandsTo P p (fields (code P p))
+  unfolding operands
+  has-operands h = rw (operands, le-ltb (code P p) 48 h)
+
+  pub some-fields : 79 < code P p → 0 < fields (code P p)
+  some-fields h = rw (fields, le-ltb (code P p) 80 h) (go (ltb (code P p) 112))
+    where
+      go : (b : Bool) → 0 < elim b [ true ↦ 1 | false ↦ 2 ]
+      go true = omega arith
+      go false = omega arith
+
+  both-fields : 111 < code P p → 2 ≡ fields (code P p)
+  both-fields h = rw (fields, le-ltb (code P p) 80 (omega arith), le-ltb (code P p) 112 h)
+
+module _ (P : Pool) (p : ℕ) {l : List ℕ} where
+  pub before-taken : 0 < p → p < length l → shaped P p ≡ true → Marked l (used P p) → Taken P p 0 l (set l (p - 1) 1)
+  unfolding operandsTo allBelow
+  before-taken z h e k =
+      let f : eqb (getD l (p - 1) 0) 0 ≡ true = not-false _ (k .says (p - 1) (omega arith) ∙ free P (p - 1) p (omega arith) e) in
+      let t : Took (p - 1) p l (set l (p - 1) 1) true = record { answer = rw (lt-ltb (p - 1) p (omega arith), f); marks = λ d. refl } in
+      let few : p ≤ length l = omega arith in
+      record {
+        lower = rw (lt-ltb (p - 1) p (omega arith));
+        marked = taken-marked k few t refl;
+        long = length-set l (p - 1) 1;
+        room = few;
+      }
+
+  pub one-more : (j : ℕ) {m n : List ℕ} {r : Bool} → Taken P p j l m → Took (field P p j) p m n r → r ≡ true → Taken P p (j + 1) l n
   unfolding operandsTo allBelow
   one-more j {m} k t e =
       let few : p ≤ length m = omega (arith, k .room, k .long) in
@@ -141,44 +191,47 @@ module _ (P : Pool) (p : ℕ) {l : List ℕ} where
       }
 
   -- the answers of the test of one node
-  pub unknown : {n : List ℕ} → 12 < code P p → Placed P p l n false
-  unknown h = record { answer = rw (le-ltb (code P p) 13 (omega arith)); marks = λ e. never e; long = λ e. never e }
-
-  pub refused : (j : ℕ) {m n : List ℕ} {r : Bool} → code P p ≤ 12 → j < arity (code P p) → Taken P p j l m → Took (operand P p j) p m n r
-      → r ≡ false → Placed P p l n false
-  unfolding operands
-  refused j h i k t e = record {
-    answer =
-        rw (lt-ltb (code P p) 13 (omega arith)) (sym (operand-fails P p (arity (code P p)) j i
-        (untaken (k .marked) (omega (arith, k .room, k .long)) t e)));
-    marks = λ e. never e;
-    long = λ e. never e;
+  pub leaf : known (code P p) ≡ true → code P p < 48 → Marked l (used P p) → Placed P p l l true
+  unfolding operands allBelow
+  leaf i h k = record {
+    answer = rw (i, operands, lt-ltb (code P p) 48 h, k .apart);
+    marks = λ e. rw (operands, lt-ltb (code P p) 48 h) k;
+    long = λ e. refl;
   }
 
-  pub placed : (j : ℕ) {m : List ℕ} → code P p ≤ 12 → j ≡ arity (code P p) → Taken P p j l m → Placed P p l m true
-  unfolding operands
-  placed j h i k =
-      let k' : Taken P p (arity (code P p)) _ _ = rw i at k in
+  no : {n : List ℕ} → (known (code P p) && (allBelow p (operands P p) && distinct (operands P p ++ used P p))) ≡ false → Placed P p l n false
+  no e = record { answer = sym e; marks = λ e. never e; long = λ e. never e }
+
+  pub first : p ≡ 0 → 47 < code P p → Placed P p l l false
+  first e h = no (rw (has-operands P p h, e, none-below P (fields (code P 0))) (and-false (known (code P 0))))
+
+  pub unknown : known (code P p) ≡ false → Placed P p l l false
+  unknown h = no (rw h)
+
+  pub refused : (j : ℕ) {m n : List ℕ} {r : Bool} → 47 < code P p → j < fields (code P p) → Taken P p j l m → Took (field P p j) p m n r
+      → r ≡ false → Placed P p l n false
+  refused j h i k t e =
+      no (rw (has-operands P p h, operand-fails P p (fields (code P p)) j i (untaken (k .marked) (omega (arith, k .room, k .long)) t e)) (and-false (known (code P p))))
+
+  placed : (j : ℕ) {m : List ℕ} → known (code P p) ≡ true → 47 < code P p → j ≡ fields (code P p) → Taken P p j l m → Placed P p l m true
+  placed j b h i k =
+      let k' : Taken P p (fields (code P p)) _ _ = rw i at k in
       record {
-        answer = rw (lt-ltb (code P p) 13 (omega arith), k' .lower, k' .marked .apart);
-        marks = λ e. k' .marked;
+        answer = rw (b, has-operands P p h, k' .lower, k' .marked .apart);
+        marks = λ e. rw (has-operands P p h) (k' .marked);
         long = λ e. k .long;
       }
 
-  -- the node of a leaf, and of a code with one, two and three operands, whose operands were taken
-  pub no-operand : {m : List ℕ} → code P p < 2 → Taken P p 0 l m → Placed P p l m true
-  no-operand h k = placed 0 (omega arith) (rw (arity, lt-ltb _ _ h)) k
+  pub one-operand : {m : List ℕ} → known (code P p) ≡ true → 47 < code P p → code P p < 80 → Taken P p 0 l m → Placed P p l m true
+  one-operand b h i k = placed 0 b h (rw (fields, lt-ltb _ _ i)) k
 
-  pub one-operand : {m : List ℕ} → code P p ≡ 2 → Taken P p 1 l m → Placed P p l m true
-  one-operand h k = placed 1 (omega arith) (rw h) k
-
-  pub two-operands : {m : List ℕ} → 3 < code P p → code P p ≤ 12 → Taken P p 2 l m → Placed P p l m true
-  two-operands h i k = placed 2 i (sym (just-two (code P p) h)) k
+  pub two-operands : {m : List ℕ} → known (code P p) ≡ true → 79 < code P p → code P p < 112 → Taken P p 1 l m → Placed P p l m true
+  two-operands b h i k = placed 1 b (omega arith) (rw (fields, le-ltb _ _ h, lt-ltb _ _ i)) k
 
   -- a third operand is the last, so it decides
-  pub third-decides : (r : Bool) {m n : List ℕ} → code P p ≡ 3 → Taken P p 2 l m → Took (operand P p 2) p m n r → Placed P p l n r
-  third-decides true h k t = placed 3 (omega arith) (rw h) (one-more 2 k t refl)
-  third-decides false h k t = refused 2 (omega arith) (rw h (omega arith)) k t refl
+  pub third-decides : (r : Bool) {m n : List ℕ} → known (code P p) ≡ true → 111 < code P p → Taken P p 1 l m → Took (field P p 1) p m n r → Placed P p l n r
+  third-decides true b h k t = placed 2 b (omega arith) (both-fields P p h) (one-more 1 k t refl)
+  third-decides false b h k t = refused 1 (omega arith) (rw (← both-fields P p h) (omega arith)) k t refl
 
 distinct-tail : (ys zs : List ℕ) → distinct zs ≡ false → distinct (ys ++ zs) ≡ false
 unfolding distinct

@@ -5,7 +5,7 @@ use mathlib.Core.Bool.{Bool, true, false, not, _&&_}
 use mathlib.Core.List.{List, _++_}
 use lib.ListN.{length, getD, set}
 use lib.Dec.{ltb, eqb}
-use Rattle.rules.specs.Pool.{Pool, code, operand, known, operands, allBelow, used, member, distinct, shaped}
+use Rattle.rules.specs.Pool.{Pool, code, known, operands, allBelow, member, distinct, used, shaped}
 
 -- no place is marked
 pub record Unmarked (m : List ℕ) : Type 0 where
@@ -26,16 +26,6 @@ pub record Placed (P : Pool) (p : ℕ) (m n : List ℕ) (r : Bool) : Type 0 wher
   pub answer : r ≡ (known (code P p) && (allBelow p (operands P p) && distinct (operands P p ++ used P p)))
   pub marks : r ≡ true → Marked n (operands P p ++ used P p)
   pub long : r ≡ true → length n ≡ length m
-
--- the nodes at p to p + 4 are n, an integer, % on them, an integer, and a binary operator on these
-pub record Remainder (P : Pool) (p : ℕ) : Type 0 where
-  pub count : code P p ≡ 0
-  pub modulus : code P (p + 1) ≡ 1
-  pub modulo : code P (p + 2) ≡ 12
-  pub other : code P (p + 3) ≡ 1
-  pub binary : (4 ≤ code P (p + 4)) × (code P (p + 4) ≤ 12)
-  pub left : (operand P (p + 2) 0 ≡ p) × (operand P (p + 2) 1 ≡ p + 1)
-  pub right : (operand P (p + 4) 0 ≡ p + 2) × (operand P (p + 4) 1 ≡ p + 3)
 
 -- the nodes at the places below k were tested, and r is one of them that fails, or none fails
 pub record Passes (P : Pool) (k r : ℕ) : Type 0 where

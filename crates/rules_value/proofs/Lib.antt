@@ -1,4 +1,2 @@
-mod Near
 mod Values
-mod Short
 pub mod Unique

@@ -1,74 +1,140 @@
--- The answers of an evaluation at a place, as a number and a flag, by its code and its operands' values.
-use mathlib.Core.Path.{_≡_, refl}
-use Prim.Native.Nat.{ℕ, _<_}
-use native.Mathlib.Omega.{arith}
-use lib.Dec.{eqb}
-use borrow.Author.Tests.{eqb-true, eqb-false}
+-- The answers of an evaluation at a place of a pool, as a number and a flag, by its code and its operands' values.
+use mathlib.Core.Path.{_≡_, refl, sym, ap, _∙_}
 use mathlib.Core.Bool.{Bool, true, false}
+use Prim.Native.Nat.{ℕ, _-_, _<_, _≤_, _%_}
+use native.Mathlib.Omega.{arith}
+use lib.Dec.{eqb, ltb}
+use borrow.Author.Tests.{lt-ltb, le-ltb, ne-eqb, ltb-true, ltb-false}
 use Rattle.rules.specs.declared.Value.{Value}
-use Rattle.rules.specs.declared.Value.the-variants.{Is}
+use Rattle.rules.specs.declared.Value.the-variants.{Is, ZeroModulus}
+use Rattle.rules.specs.Tree.{Tree, rem}
 use Rattle.rules.specs.Value.{truth, binary, evalTree}
-use Rattle.rules.specs.Pool.{Pool, code, value, operand, treeOf, isTree, opOf}
-use Rattle.rules.specs.Answer.{resolvedOf}
-use Rattle.rules_operators.specs.Operator.{settled, Gives}
-use Rattle.rules_value.specs.Walk.{leafOf, formIf}
-use Rattle.rules.proofs.Answers.{resolves}
-use Rattle.rules.proofs.Trees.{Binary, Ternary, tree-var, tree-int, tree-nay, tree-cond, tree-bin}
+use Rattle.rules.specs.Operator.{opOf, opAt, Named}
+use Rattle.rules.specs.Pool.{Pool, code, field, value, leaf, one, two, treeOf}
+use Rattle.rules.specs.Sound.{Sound}
+use Rattle.rules_operators.specs.Operator.{settled, settledBy, Gives, Applies}
 use Rattle.rules_operators.proofs.Given.{number, fails-as, is-as, negation, first-arm, second-arm, left-alone, both, by-left}
+use Rattle.rules.proofs.Trees.{before-in, first-in, down, tree-leaf, tree-one, tree-two, tree-three, leaf-op, leaf-rest, one-op, two-op}
+use Rattle.rules_value.specs.Walk.{firstAt}
+
+settles : (i x : ℕ) {s b : Bool} (k : Named i) → s ≡ settledBy (opOf i) x → s ≡ b → settled (k .op) x ≡ b
+settles i x k e d = ap (λ o. settledBy o x) (sym (k .is)) ∙ sym e ∙ d
+
+module _ {P : Pool} {p : ℕ} (s : Sound P p) where
+  -- the first operand is the place before, or a field's
+  pub first-down : {q t : ℕ} → p ≡ t → 47 < code P p → q ≡ firstAt (code P p) p (field P p 0) → (q < t) × Sound P q
+  first-down {q} {t} e h d = go (ltb (code P p) 80) refl
+    where
+      go : (b : Bool) → ltb (code P p) 80 ≡ b → (q < t) × Sound P q
+      go true f = down s e (before-in s h) (d ∙ rw (firstAt, f))
+      go false f = down s e (first-in s (ltb-false _ _ f)) (d ∙ rw (firstAt, f))
 
 module _ (P : Pool) (p n : ℕ) where
   abbrev ev : ℕ → Value
   ev q = evalTree (treeOf P q) n
 
-  leaf-is : code P p < 2 → ev p ≡ Is (leafOf P p n)
-  unfolding evalTree
-  leaf-is h = go (eqb (code P p) 0) refl
-    where
-      go : (b : Bool) → eqb (code P p) 0 ≡ b → ev p ≡ Is (elim b [ true ↦ n | false ↦ value P p ])
-      go true e = rw (tree-var P p (eqb-true _ _ e))
-      go false e = let d : code P p ≡ 0 → ⊥ = eqb-false _ _ e in rw (tree-int P p (omega arith))
-
-  pub at-leaf : {b : Bool} {r : ℕ} → code P p < 2 → r ≡ leafOf P p n → Gives (ev p) b b r
-  at-leaf h e = number (leaf-is h) e
-
-  pub at-nay : {b c : Bool} {x r : ℕ} → code P p ≡ 2 → operand P p 0 < p → Gives (ev (operand P p 0)) b c x → r ≡ truth (eqb x 0)
-      → Gives (ev p) b c r
-  unfolding evalTree
-  at-nay h a g e = rw (tree-nay P p h a) (negation _ g e)
-
-  pub at-no : {b c d : Bool} {x r : ℕ} → Ternary P p → Gives (ev (operand P p 0)) b c x → x ≡ 0 → Gives (ev (operand P p 2)) c d r
-      → Gives (ev p) b d r
-  unfolding evalTree
-  at-no h g e k = rw (tree-cond P p h) (second-arm _ _ _ g e k)
-
-  pub at-yes : {b c d : Bool} {x r : ℕ} → Ternary P p → Gives (ev (operand P p 0)) b c x → (x ≡ 0 → ⊥) → Gives (ev (operand P p 1)) c d r
-      → Gives (ev p) b d r
-  unfolding evalTree
-  at-yes h g e k = rw (tree-cond P p h) (first-arm _ _ _ g e k)
-
-  pub at-settled : {b c d : Bool} {x r : ℕ} → Binary P p → Gives (ev (operand P p 0)) b c x → settled (opOf (code P p)) x ≡ true
-      → Gives (binary (opOf (code P p)) (Is x) (Is 0)) c d r → Gives (ev p) b d r
-  unfolding evalTree
-  at-settled h g e k = rw (tree-bin P p h) (left-alone _ _ _ g e k)
-
-  pub at-both : {b c d e : Bool} {x y r : ℕ} → Binary P p → Gives (ev (operand P p 0)) b c x → settled (opOf (code P p)) x ≡ false
-      → Gives (ev (operand P p 1)) c d y → Gives (binary (opOf (code P p)) (Is x) (Is y)) d e r → Gives (ev p) b e r
-  unfolding evalTree
-  at-both h g s k l = rw (tree-bin P p h) (both _ _ _ g s k l)
+  abbrev val : Tree → Value
+  val t = evalTree t n
 
   -- what was given at a place that is this one
-  pub moved : {l : ℕ} {b c d : Bool} {x y : ℕ} → Gives (ev l) b c x → l ≡ p → d ≡ c → y ≡ x → Gives (ev p) b d y
-  moved g e f h = rw (← e, f, h) g
+  pub moved : {l : ℕ} {b c : Bool} {x : ℕ} → Gives (ev l) b c x → l ≡ p → Gives (ev p) b c x
+  moved g e = rw (← e) g
 
--- an operator whose right operand is a leaf
-pub at-low : (P : Pool) (p n : ℕ) {j x y : ℕ} {b c d : Bool} {r : ℕ} → Binary P p → code P (operand P p 1) < 2
-    → Gives (evalTree (treeOf P (operand P p 0)) n) b c x → j ≡ operand P p 1 → y ≡ leafOf P j n
-    → Gives (binary (opOf (code P p)) (Is x) (Is y)) c d r → Gives (evalTree (treeOf P p) n) b d r
-unfolding evalTree
-at-low P p n h m g f e k = rw (tree-bin P p h, leaf-is P (operand P p 1) n m, ← f, ← e) (by-left _ _ _ g k)
+  -- what was given at the first operand's place
+  pub by-before : {q : ℕ} {b c : Bool} {x : ℕ} → code P p < 80 → q ≡ firstAt (code P p) p (field P p 0) → Gives (ev q) b c x → Gives (ev (p - 1)) b c x
+  by-before {q} h e g = let d : q ≡ p - 1 = e ∙ rw (firstAt, lt-ltb (code P p) 80 h) in rw (← d) g
 
--- the answer of a pool by what a walk from its root gave
-pub answered : (P : Pool) (count root n : ℕ) (c : Bool) {r : ℕ} → isTree P count root ≡ true → Gives (evalTree (treeOf P root) n) false c r
-    → formIf r c ≡ resolvedOf P count root n
-answered P count root n true e g = resolves P count root n e refl (fails-as _ g refl)
-answered P count root n false e g = resolves P count root n e refl (is-as _ g refl)
+  pub by-field : {q : ℕ} {b c : Bool} {x : ℕ} → 79 < code P p → q ≡ firstAt (code P p) p (field P p 0) → Gives (ev q) b c x
+      → Gives (ev (field P p 0)) b c x
+  by-field {q} h e g = let d : q ≡ field P p 0 = e ∙ rw (firstAt, le-ltb (code P p) 80 h) in rw (← d) g
+
+  pub at-count : {b : Bool} {r : ℕ} → code P p ≡ 0 → r ≡ n → Gives (ev p) b b r
+  unfolding evalTree
+  at-count h e = number (ap val (tree-leaf P p (omega arith)) ∙ rw h) e
+
+  pub at-int : {b : Bool} {r : ℕ} → (code P p ≡ 0 → ⊥) → code P p < 16 → r ≡ value P p → Gives (ev p) b b r
+  unfolding evalTree
+  at-int d h e = number (ap val (tree-leaf P p (omega arith)) ∙ rw (leaf, lt-ltb (code P p) 16 h, ne-eqb (code P p) 0 d)) e
+
+  pub at-op : {b c : Bool} {r : ℕ} → 15 < code P p → code P p < 32 → Named (code P p % 16) → Applies (code P p % 16) n (value P p) b c r → Gives (ev p) b c r
+  unfolding evalTree
+  at-op d h k g = rw (tree-leaf P p (omega arith), leaf-op (code P p) (field P p 0) (value P p) (k .is) d h) (g .gives (k .op) (k .is))
+
+  pub at-rest : {b c d : Bool} {m x r : ℕ} → 31 < code P p → code P p < 48 → Named (code P p % 16) → m ≡ field P p 0 → Applies 8 n m b c x
+      → Applies (code P p % 16) x (value P p) c d r → Gives (ev p) b d r
+  unfolding evalTree opOf opAt
+  at-rest h l k e g w =
+      rw (tree-leaf P p l, leaf-rest (code P p) (field P p 0) (value P p) (k .is) h)
+      (by-left (k .op) (binary rem (Is n) (Is (field P p 0))) (value P p) (rw e at (g .gives rem refl)) (w .gives (k .op) (k .is)))
+
+  module _ {b c : Bool} {x : ℕ} (a : p - 1 < p) (g : Gives (ev (p - 1)) b c x) where
+    pub at-nay : {r : ℕ} → code P p ≡ 48 → r ≡ truth (eqb x 0) → Gives (ev p) b c r
+    unfolding evalTree
+    at-nay h e = rw (tree-one P p (omega arith) (omega arith) a, h) (negation _ g e)
+
+    pub at-other : {r : ℕ} → 48 < code P p → code P p < 64 → x ≡ 0 → r ≡ field P p 0 → Gives (ev p) b c r
+    unfolding evalTree
+    at-other h l z e = rw (tree-one P p (omega arith) (omega arith) a, one, ne-eqb (code P p) 48 (omega arith), lt-ltb (code P p) 64 l) (second-arm _ _ _ g z (number refl e))
+
+    pub at-value : {r : ℕ} → 48 < code P p → code P p < 64 → (x ≡ 0 → ⊥) → r ≡ value P p → Gives (ev p) b c r
+    unfolding evalTree
+    at-value h l z e = rw (tree-one P p (omega arith) (omega arith) a, one, ne-eqb (code P p) 48 (omega arith), lt-ltb (code P p) 64 l) (first-arm _ _ _ g z (number refl e))
+
+    pub at-one : {d : Bool} {r : ℕ} → 63 < code P p → code P p < 80 → Named (code P p % 16) → Applies (code P p % 16) x (value P p) c d r
+        → Gives (ev p) b d r
+    unfolding evalTree
+    at-one h l k w =
+        rw (tree-one P p (omega arith) l a, one-op (code P p) (field P p 0) (value P p) (treeOf P (p - 1)) (treeOf P (p - 1)) (k .is) h)
+        (by-left _ _ _ g (w .gives (k .op) (k .is)))
+
+  module _ {b c : Bool} {x : ℕ} (a : p - 1 < p) (f : field P p 0 < p) (g : Gives (ev (field P p 0)) b c x) where
+    pub at-no : {d : Bool} {r : ℕ} → 95 < code P p → (111 < code P p → field P p 1 < p) → x ≡ 0 → Gives (ev (p - 1)) c d r → Gives (ev p) b d r
+    unfolding evalTree
+    at-no {d} {r} h s z k = go (ltb (code P p) 112) refl
+      where
+        go : (i : Bool) → ltb (code P p) 112 ≡ i → Gives (ev p) b d r
+        go true e =
+            rw (tree-two P p (omega arith) (ltb-true (code P p) 112 e) a f, two, le-ltb (code P p) 96 h) (second-arm _ _ _ g z k)
+        go false e =
+            let j : 111 < code P p = ltb-false (code P p) 112 e in
+            rw (tree-three P p j a f (s j)) (second-arm _ _ _ g z k)
+
+    pub at-chosen : {r : ℕ} → 95 < code P p → code P p < 112 → (x ≡ 0 → ⊥) → r ≡ value P p → Gives (ev p) b c r
+    unfolding evalTree
+    at-chosen h l z e = rw (tree-two P p (omega arith) l a f, two, le-ltb (code P p) 96 h) (first-arm _ _ _ g z (number refl e))
+
+    pub at-yes : {d : Bool} {r : ℕ} → 111 < code P p → field P p 1 < p → (x ≡ 0 → ⊥) → Gives (ev (field P p 1)) c d r → Gives (ev p) b d r
+    unfolding evalTree
+    at-yes h s z k = rw (tree-three P p h a f s) (first-arm _ _ _ g z k)
+
+    pub at-settled : {d s : Bool} {r : ℕ} → 79 < code P p → code P p < 96 → Named (code P p % 16) → s ≡ settledBy (opOf (code P p % 16)) x → s ≡ true
+        → Applies (code P p % 16) x 0 c d r → Gives (ev p) b d r
+    unfolding evalTree
+    at-settled h l k e i w =
+        rw (tree-two P p h (omega arith) a f, two-op (code P p) 0 (value P p) (treeOf P (field P p 0)) (treeOf P (p - 1)) (k .is) l)
+        (left-alone _ _ _ g (settles (code P p % 16) x k e i) (w .gives (k .op) (k .is)))
+
+    pub at-both : {d e s : Bool} {y r : ℕ} → 79 < code P p → code P p < 96 → Named (code P p % 16) → s ≡ settledBy (opOf (code P p % 16)) x → s ≡ false
+        → Gives (ev (p - 1)) c d y → Applies (code P p % 16) x y d e r → Gives (ev p) b e r
+    unfolding evalTree
+    at-both h l k e i m w =
+        rw (tree-two P p h (omega arith) a f, two-op (code P p) 0 (value P p) (treeOf P (field P p 0)) (treeOf P (p - 1)) (k .is) l)
+        (both _ _ _ g (settles (code P p % 16) x k e i) m (w .gives (k .op) (k .is)))
+
+-- the value of a number and a flag
+module _ {v : Value} {r : ℕ} where
+  pub failed : {c : Bool} → Gives v false c r → c ≡ true → ZeroModulus ≡ v
+  failed g e = sym (fails-as v g e)
+
+  pub whole : {c : Bool} → Gives v false c r → c ≡ false → Is r ≡ v
+  whole g e = sym (is-as v g e)
+
+-- what was given by one of two ways
+pub joined : {v : Value} {b c d : Bool} {x y : ℕ} → Gives v b c x → d ≡ c → y ≡ x → Gives v b d y
+joined g e f = rw (e, f) g
+
+pub inside : {P : Pool} {p : ℕ} → Sound P p → p < 512
+inside s = omega (arith, s .inside, s .few)
+
+pub over : {c : ℕ} → 48 ≤ c → (c ≡ 48 → ⊥) → 48 < c
+over h d = omega arith

@@ -1,12 +1,12 @@
--- `apply::apply` meets its contract: each return is the definition at the operator that the tests before it leave.
-use mathlib.Core.Path.{refl}
+-- `rules_operators::apply` meets its contract: each return is the definition at the operator that the tests before it leave.
+use mathlib.Core.Path.{refl, sym, ap, _∙_}
 use borrow.Author.Tests.{eq-eqb, ne-eqb}
 use native.Mathlib.Omega.{arith}
+use Rattle.rules.specs.declared.Value.the-variants.{Is}
 use Rattle.rules.specs.Value.{binary, truthV}
-use Rattle.rules.specs.Pool.{opOf, opAt}
-use Rattle.rules.proofs.Operators.{op-rem}
-use Rattle.rules_operators.proofs.Operators.{op-cmp}
-use Rattle.rules_operators.proofs.Given.{is-number, is-zero}
+use Rattle.rules.proofs.Operators.{is-rem}
+use Rattle.rules_operators.proofs.Operators.{low-cmp, is-and, is-or}
+use Rattle.rules_operators.proofs.Given.{applied-number, applied-zero}
 use borrow.Author.Needs.{needs}
 use Rattle.rules_operators.proofs.apply.Statement.{statement}
 use Rattle.rules_operators.proofs.apply.Tie as tie
@@ -19,40 +19,44 @@ truth-requires c κs = search needs
 
 returns : tie.Need-returns
 unfolding binary
-returns c = is-number (rw (op-cmp _ (c .before .before .if1 .taken), ← c .before .compares .ensures)) (c .truth .ensures)
+returns c =
+    applied-number λ op e.
+    let k = low-cmp _ op e (c .before .before .if1 .taken) in
+    rw (k .is) (ap Is (sym (c .truth .ensures ∙ rw (c .before .compares .ensures .is (k .which) (rw (k .is) at e)))))
 
 returns-2 : tie.Need-returns-2
-unfolding binary opOf opAt
-returns-2 c = is-number (rw (c .before .if2 .taken, eq-eqb _ _ (c .if3 .taken))) refl
+unfolding binary
+returns-2 c = applied-number λ op e. rw (is-and _ op e (c .before .if2 .taken), eq-eqb _ _ (c .if3 .taken))
 
 truth-requires-2 : tie.Need-truth-requires-2
 truth-requires-2 c κs = search needs
 
 returns-3 : tie.Need-returns-3
-unfolding binary truthV opOf opAt
-returns-3 c = is-number (rw (c .before .before .if2 .taken, ne-eqb _ _ (c .before .if3 .left))) (c .truth2 .ensures)
+unfolding binary truthV
+returns-3 c = applied-number λ op e. rw (is-and _ op e (c .before .before .if2 .taken), ne-eqb _ _ (c .before .if3 .left)) (ap Is (sym (c .truth2 .ensures)))
 
 truth-requires-3 : tie.Need-truth-requires-3
 truth-requires-3 c κs = search needs
 
 returns-4 : tie.Need-returns-4
-unfolding binary truthV opOf opAt
-returns-4 c = is-number (rw (c .before .before .if4 .taken, eq-eqb _ _ (c .before .if5 .taken))) (c .truth3 .ensures)
+unfolding binary truthV
+returns-4 c = applied-number λ op e. rw (is-or _ op e (c .before .before .if4 .taken), eq-eqb _ _ (c .before .if5 .taken)) (ap Is (sym (c .truth3 .ensures)))
 
 returns-5 : tie.Need-returns-5
-unfolding binary opOf opAt
-returns-5 c = is-number (rw (c .before .if4 .taken, ne-eqb _ _ (c .if5 .left))) refl
+unfolding binary
+returns-5 c = applied-number λ op e. rw (is-or _ op e (c .before .if4 .taken), ne-eqb _ _ (c .if5 .left))
 
 returns-6 : tie.Need-returns-6
 unfolding binary
-returns-6 c = is-zero (rw (op-rem (c .before .before .before .before .args .code) (omega arith), eq-eqb _ _ (c .if6 .taken))) refl refl
+returns-6 c =
+    applied-zero (λ op e. rw (is-rem (c .before .before .before .before .args .op) op e (omega arith), eq-eqb _ _ (c .if6 .taken))) refl refl
 
 rem-result : tie.Need-rem-result
 rem-result c = search needs
 
 returns-7 : tie.Need-returns-7
 unfolding binary
-returns-7 c = is-number (rw (op-rem (c .before .before .before .before .args .code) (omega arith), ne-eqb _ _ (c .if6 .left))) refl
+returns-7 c = applied-number λ op e. rw (is-rem (c .before .before .before .before .args .op) op e (omega arith), ne-eqb _ _ (c .if6 .left))
 
 pub apply-spec : {M : Type 1} → statement M
 apply-spec =

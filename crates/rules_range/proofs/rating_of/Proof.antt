@@ -2,7 +2,8 @@
 use mathlib.Core.Path.{sym}
 use denote.Ref.{now}
 use Rattle.rules.specs.Pool.{Pool, pool}
-use Rattle.rules.proofs.Answers.{told, sound, rates, rated-none}
+use Rattle.rules.proofs.Trees.{told, sound}
+use Rattle.rules.proofs.Answers.{rates, rated-none}
 use borrow.Author.Needs.{needs}
 use Rattle.rules_range.proofs.rating_of.Statement.{statement}
 use Rattle.rules_range.proofs.rating_of.Tie as tie

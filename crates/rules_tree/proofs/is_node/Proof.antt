@@ -1,102 +1,102 @@
--- `tree::is_node` meets its contract: the operands that the code uses are taken one after the other, and each return is the answer at
--- those that were.
+-- `rules_tree::is_node` meets its contract: a known code comes first; then the place before and the operands in the fields that the code uses
+-- are taken one after the other, and each return is the answer at those that were.
+use mathlib.Core.Path.{_≡_, sym, _∙_}
+use mathlib.Core.Bool.{true}
 use mathlib.Core.List.{[]}
+use Prim.Native.Nat.{_-_}
+use lib.ListN.{length, set, length-set}
 use native.Mathlib.Omega.{arith}
 use denote.Ref.{now}
 use borrow.Author.Tests.{not-true, not-false}
-use Rattle.rules.specs.Pool.{Pool, pool, code}
-use Rattle.rules.proofs.Trees.{one-of, two-of}
-use Rattle.rules_tree.proofs.Marks.{Taken, none-taken, one-more, unknown, refused, no-operand, one-operand, two-operands, third-decides}
+use Rattle.rules.specs.Pool.{Pool, pool}
+use Rattle.rules_tree.proofs.Marks.{Taken, before-taken, one-more, leaf, first, unknown, refused, one-operand, two-operands, some-fields, third-decides}
 use borrow.Author.Needs.{needs}
 use Rattle.rules_tree.proofs.is_node.Statement.{statement}
 use Rattle.rules_tree.proofs.is_node.Tie as tie
+use Rattle.rules_tree.proofs.is_node.Reads as reads
+use Rattle.rules_tree.proofs.is_node.Lts as lts
+use Rattle.rules_tree.proofs.is_known.Reads as is-known-reads
+use Rattle.rules_tree.proofs.takes.Reads as takes-reads
 
 abbrev P : tie.Start → Pool
 P s = pool (now (s .args .codes)) (now (s .args .places)) []
 
--- no operand was taken before the first
-at-first : (s : tie.Start) → Taken (P s) (s .args .p) 0 (now (s .args .marks)) (now (s .args .marks))
-at-first s = none-taken (P s) (s .args .p) (s .pre .1) (s .pre .2)
+marked-long : (s : tie.Start) → length (set (now (s .args .marks)) (s .args .p - 1) 1) ≡ length (now (s .args .marks))
+marked-long s = length-set (now (s .args .marks)) (s .args .p - 1) 1
+
+-- the place before was taken
+at-before : (s : tie.Start) → (s .args .p ≡ 0 → ⊥) → Taken (P s) (s .args .p) 0 (now (s .args .marks)) (set (now (s .args .marks)) (s .args .p - 1) 1)
+at-before s h = before-taken (P s) (s .args .p) (omega arith) (s .pre .0 .1) (s .pre .1 .0) (s .pre .1 .1)
 
 element-copy-out-code : tie.Need-element-copy-out-code
 element-copy-out-code c = search needs
 
+is-known-requires : tie.Need-is-known-requires
+is-known-requires c κs = search needs
+
 returns : tie.Need-returns
-returns c =
-    let s : tie.Start = c .before .before .before in
-    no-operand (P s) (s .args .p) (c .if1 .taken) (at-first s)
+returns c = let s : tie.Start = c .before .before .before .before in unknown (P s) (s .args .p) (sym (c .before .is-known .ensures) ∙ not-true _ (c .if1 .taken))
 
 returns-2 : tie.Need-returns-2
-returns-2 c =
-    let s : tie.Start = c .before .before .before .before in
-    unknown (P s) (s .args .p) (c .if2 .taken)
+returns-2 c = let s : tie.Start = c .before .before .before .before .before in leaf (P s) (s .args .p) (sym (c .before .before .is-known .ensures) ∙ not-false _ (c .before .if1 .left)) (c .if2 .taken) (s .pre .1 .1)
 
-takes-requires : tie.Need-takes-requires
-takes-requires c κs = search needs
+returns-3 : tie.Need-returns-3
+returns-3 c = let s : tie.Start = c .before .before .before .before .before .before in first (P s) (s .args .p) (c .if3 .taken) (c .before .if2 .left)
+
+sub-marks : tie.Need-sub-marks
+sub-marks c = search needs
+
+slice-write-marks : tie.Need-slice-write-marks
+slice-write-marks c = search needs
 
 same-length : tie.Need-same-length
 same-length c = search needs
 
-returns-3 : tie.Need-returns-3
-returns-3 c =
-    let s : tie.Start = c .before .before .before .before .before .before .before .before .before in
-    refused (P s) (s .args .p) 0 (c .before .before .before .before .before .if2 .left) (one-of _ (c .before .before .before .before .before .before .if1 .left)) (at-first s) (c .before .before .before .takes .ensures) (not-true _ (c .if3 .taken))
+returns-4 : tie.Need-returns-4
+returns-4 c = let s : tie.Start = c .before .before .before .before .before .before .before in one-operand (P s) (s .args .p) (sym (c .before .before .before .before .is-known .ensures) ∙ not-false _ (c .before .before .before .if1 .left)) (c .before .before .if2 .left) (c .if4 .taken) (at-before s (c .before .if3 .left))
+
+takes-requires : tie.Need-takes-requires
+takes-requires c κs = search needs
 
 same-length-2 : tie.Need-same-length-2
-same-length-2 c = search needs
-
-returns-4 : tie.Need-returns-4
-returns-4 c =
-    let s : tie.Start = c .before .before .before .before .before .before .before .before .before .before in
-    one-operand (P s) (s .args .p) (c .if4 .taken) (one-more (P s) (s .args .p) 0 (at-first s) (c .before .before .before .before .takes .ensures) (not-false _ (c .before .if3 .left)))
-
-takes-requires-2 : tie.Need-takes-requires-2
-takes-requires-2 c κs = search needs
-
-same-length-3 : tie.Need-same-length-3
-same-length-3 c = search needs
+same-length-2 c = let s : tie.Start = c .before .before .before .before .before .before .before .before .before .before .before .before in c .before .before .before .takes .kept .1 .0 ∙ marked-long s
 
 returns-5 : tie.Need-returns-5
-returns-5 c =
-    let s : tie.Start = c .before .before .before .before .before .before .before .before .before .before .before .before .before .before .before in
-    refused (P s) (s .args .p) 1 (c .before .before .before .before .before .before .before .before .before .before .before .if2 .left) (two-of (code (P s) (s .args .p)) (omega arith)) (one-more (P s) (s .args .p) 0 (at-first s) (c .before .before .before .before .before .before .before .before .before .takes .ensures) (not-false _ (c .before .before .before .before .before .before .if3 .left))) (c .before .before .before .takes2 .ensures) (not-true _ (c .if5 .taken))
+returns-5 c = let s : tie.Start = c .before .before .before .before .before .before .before .before .before .before .before .before in refused (P s) (s .args .p) 0 (c .before .before .before .before .before .before .before .if2 .left) (some-fields (P s) (s .args .p) (c .before .before .before .before .before .if4 .left)) (at-before s (c .before .before .before .before .before .before .if3 .left)) (c .before .before .before .takes .ensures) (not-true _ (c .if5 .taken))
 
-same-length-4 : tie.Need-same-length-4
-same-length-4 c = search needs
+same-length-3 : tie.Need-same-length-3
+same-length-3 c = let s : tie.Start = c .before .before .before .before .before .before .before .before .before .before .before .before .before in c .before .before .before .before .takes .kept .1 .0 ∙ marked-long s
 
 returns-6 : tie.Need-returns-6
-returns-6 c =
-    let s : tie.Start = c .before .before .before .before .before .before .before .before .before .before .before .before .before .before .before .before in
-    two-operands (P s) (s .args .p) (omega arith) (c .before .before .before .before .before .before .before .before .before .before .before .before .if2 .left) (one-more (P s) (s .args .p) 1 (one-more (P s) (s .args .p) 0 (at-first s) (c .before .before .before .before .before .before .before .before .before .before .takes .ensures) (not-false _ (c .before .before .before .before .before .before .before .if3 .left))) (c .before .before .before .before .takes2 .ensures) (not-false _ (c .before .if5 .left)))
+returns-6 c = let s : tie.Start = c .before .before .before .before .before .before .before .before .before .before .before .before .before in two-operands (P s) (s .args .p) (sym (c .before .before .before .before .before .before .before .before .before .before .is-known .ensures) ∙ not-false _ (c .before .before .before .before .before .before .before .before .before .if1 .left)) (c .before .before .before .before .before .before .if4 .left) (c .if6 .taken) (one-more (P s) (s .args .p) 0 (at-before s (c .before .before .before .before .before .before .before .if3 .left)) (c .before .before .before .before .takes .ensures) (not-false _ (c .before .if5 .left)))
 
-takes-requires-3 : tie.Need-takes-requires-3
-takes-requires-3 c κs = search needs
+takes-requires-2 : tie.Need-takes-requires-2
+takes-requires-2 c κs = let s : tie.Start = c .before .before .before .before .before .before .before .before .before .before .before .before .before .before in (omega arith, omega arith, omega (arith, c .before .before .before .before .before .takes .kept .1 .0, marked-long s, s .pre .0 .1))
 
-same-length-5 : tie.Need-same-length-5
-same-length-5 c = search needs
+same-length-4 : tie.Need-same-length-4
+same-length-4 c = let s : tie.Start = c .before .before .before .before .before .before .before .before .before .before .before .before .before .before .before .before .before in c .before .before .takes2 .kept .1 .0 ∙ c .before .before .before .before .before .before .before .before .takes .kept .1 .0 ∙ marked-long s
 
 returns-7 : tie.Need-returns-7
-returns-7 c =
-    let s : tie.Start = c .before .before .before .before .before .before .before .before .before .before .before .before .before .before .before .before .before .before .before .before in
-    third-decides (P s) (s .args .p) _ (c .before .before .before .before .if6 .left) (one-more (P s) (s .args .p) 1 (one-more (P s) (s .args .p) 0 (at-first s) (c .before .before .before .before .before .before .before .before .before .before .before .before .before .before .takes .ensures) (not-false _ (c .before .before .before .before .before .before .before .before .before .before .before .if3 .left))) (c .before .before .before .before .before .before .before .before .takes2 .ensures) (not-false _ (c .before .before .before .before .before .if5 .left))) (c .before .before .takes3 .ensures)
+returns-7 c = let s : tie.Start = c .before .before .before .before .before .before .before .before .before .before .before .before .before .before .before .before .before in third-decides (P s) (s .args .p) _ (sym (c .before .before .before .before .before .before .before .before .before .before .before .before .before .before .is-known .ensures) ∙ not-false _ (c .before .before .before .before .before .before .before .before .before .before .before .before .before .if1 .left)) (c .before .before .before .before .if6 .left) (one-more (P s) (s .args .p) 0 (at-before s (c .before .before .before .before .before .before .before .before .before .before .before .if3 .left)) (c .before .before .before .before .before .before .before .before .takes .ensures) (not-false _ (c .before .before .before .before .before .if5 .left))) (c .before .before .takes2 .ensures)
 
 pub is-node-spec : {M : Type 1} → statement M
 is-node-spec =
     tie.close
     (tie.spec
     element-copy-out-code
+    is-known-requires
     returns
     returns-2
-    takes-requires
-    same-length
     returns-3
-    same-length-2
+    sub-marks
+    slice-write-marks
+    same-length
     returns-4
-    takes-requires-2
-    same-length-3
+    takes-requires
+    same-length-2
     returns-5
-    same-length-4
+    same-length-3
     returns-6
-    takes-requires-3
-    same-length-5
+    takes-requires-2
+    same-length-4
     returns-7)

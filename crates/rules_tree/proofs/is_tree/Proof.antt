@@ -1,4 +1,4 @@
--- `tree::is_tree` meets its contract: the counts are tested here, the nodes by `passes_few` or `passes`, whose marks are cleared.
+-- `rules_tree::is_tree` meets its contract: the counts are tested here, the nodes by `passes`, whose marks are cleared.
 use mathlib.Core.List.{[]}
 use native.Mathlib.Omega.{arith}
 use denote.Ref.{now}
@@ -21,27 +21,27 @@ returns-2 c =
     let s : tie.Start = c .before .before in
     no-root (P s) (s .args .count) (s .args .root) (c .before .if1 .left) (c .if2 .taken)
 
-slice-aggregate-passes-few : tie.Need-slice-aggregate-passes-few
-slice-aggregate-passes-few c = search needs
-
-passes-few-requires : tie.Need-passes-few-requires
-passes-few-requires c κs = (omega arith, omega arith, cleared 68)
-
-returns-3 : tie.Need-returns-3
-returns-3 c =
-    let s : tie.Start = c .before .before .before .before .before .before in
-    tested (P s) (s .args .count) (s .args .root) (c .before .before .before .before .before .if1 .left) (c .before .before .before .before .if2 .left) (c .before .passes-few .ensures)
-
 slice-aggregate-passes : tie.Need-slice-aggregate-passes
 slice-aggregate-passes c = search needs
 
 passes-requires : tie.Need-passes-requires
-passes-requires c κs = (omega arith, omega arith, cleared 512)
+passes-requires c κs = (omega arith, omega arith, cleared 64)
+
+returns-3 : tie.Need-returns-3
+returns-3 c =
+    let s : tie.Start = c .before .before .before .before .before .before in
+    tested (P s) (s .args .count) (s .args .root) (c .before .before .before .before .before .if1 .left) (c .before .before .before .before .if2 .left) (c .before .passes .ensures)
+
+slice-aggregate-passes-2 : tie.Need-slice-aggregate-passes-2
+slice-aggregate-passes-2 c = search needs
+
+passes-requires-2 : tie.Need-passes-requires-2
+passes-requires-2 c κs = (omega arith, omega arith, cleared 512)
 
 returns-4 : tie.Need-returns-4
 returns-4 c =
     let s : tie.Start = c .before .before .before .before .before .before in
-    tested (P s) (s .args .count) (s .args .root) (c .before .before .before .before .before .if1 .left) (c .before .before .before .before .if2 .left) (c .before .passes .ensures)
+    tested (P s) (s .args .count) (s .args .root) (c .before .before .before .before .before .if1 .left) (c .before .before .before .before .if2 .left) (c .before .passes2 .ensures)
 
 pub is-tree-spec : {M : Type 1} → statement M
 is-tree-spec =
@@ -49,9 +49,9 @@ is-tree-spec =
     (tie.spec
     returns
     returns-2
-    slice-aggregate-passes-few
-    passes-few-requires
-    returns-3
     slice-aggregate-passes
     passes-requires
+    returns-3
+    slice-aggregate-passes-2
+    passes-requires-2
     returns-4)

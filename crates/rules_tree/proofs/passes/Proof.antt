@@ -1,4 +1,4 @@
--- `tree::passes` meets its contract. The loop's invariant: every place before p passed, and the marks are those of their operands,
+-- `rules_tree::passes` meets its contract. The loop's invariant: every place before p passed, and the marks are those of their operands,
 -- of which none stands twice.
 use Prim.Native.Nat.{_≤_, _-_}
 use mathlib.Core.Path.{_≡_, refl, _∙_}
@@ -25,7 +25,7 @@ loop-holds : tie.Need-loop-holds Inv-loop μ-loop
 loop-holds c = let s : tie.Start Inv-loop μ-loop = c .before in (omega arith, refl, none-passed (P s) (s .pre .2))
 
 is-node-requires : tie.Need-is-node-requires Inv-loop μ-loop
-is-node-requires c κs = (omega arith, omega (arith, c .before .before .loop .inv .1), c .before .before .loop .inv .2 .marked)
+is-node-requires c κs = ((omega arith, omega (arith, c .before .before .loop .inv .1)), (c .before .before .loop .inv .2 .whole, c .before .before .loop .inv .2 .marked))
 
 add-p : tie.Need-add-p Inv-loop μ-loop
 add-p c = search needs

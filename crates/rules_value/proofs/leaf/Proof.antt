@@ -1,25 +1,70 @@
--- `resolve::leaf` meets its contract: n where the code is that of n, else the value.
-use Rattle.rules_value.specs.Walk.{leafOf}
-use borrow.Author.Tests.{eq-eqb, ne-eqb}
+-- `rules_value::leaf` meets its contract: each return is the value of the tree that the tests before it leave.
+use mathlib.Core.Path.{refl}
+use mathlib.Core.Option.{some}
+use native.Mathlib.Omega.{arith}
+use denote.Ref.{now}
+use Rattle.rules.specs.Tree.{rem}
+use Rattle.rules.specs.Operator.{opOf, opAt}
+use Rattle.rules.specs.Pool.{Pool, pool}
+use Rattle.rules.proofs.Trees.{op-low}
+use Rattle.rules_value.proofs.Values.{at-count, at-int, at-op, at-rest, inside}
 use borrow.Author.Needs.{needs}
 use Rattle.rules_value.proofs.leaf.Statement.{statement}
 use Rattle.rules_value.proofs.leaf.Tie as tie
+use Rattle.rules_value.proofs.leaf.Reads as reads
+use Rattle.rules_value.proofs.leaf.Lts as lts
+use Rattle.rules_operators.proofs.apply.Reads as apply-reads
+use Rattle.rules_value.proofs.small.Reads as small-reads
 
-element-copy-out-if1 : tie.Need-element-copy-out-if1
-element-copy-out-if1 c = search needs
+abbrev P : tie.Start → Pool
+P s = pool (now (s .args .codes)) (now (s .args .places)) (now (s .args .values))
+
+element-copy-out-code : tie.Need-element-copy-out-code
+element-copy-out-code c = search needs
 
 returns : tie.Need-returns
-returns c = rw (leafOf, eq-eqb _ _ (c .if1 .taken))
+returns c = let s : tie.Start = c .before .before in at-count (P s) (s .args .at) (s .args .n) (c .if1 .taken) refl
 
-mul-result : tie.Need-mul-result
-mul-result c = search needs
+mul-v : tie.Need-mul-v
+mul-v c = search needs
 
-element-copy-out-result : tie.Need-element-copy-out-result
-element-copy-out-result c = search needs
+element-copy-out-v : tie.Need-element-copy-out-v
+element-copy-out-v c = search needs
 
 returns-2 : tie.Need-returns-2
-returns-2 c = rw (leafOf, ne-eqb _ _ (c .before .if1 .left))
+returns-2 c = let s : tie.Start = c .before .before .before .before in at-int (P s) (s .args .at) (s .args .n) (c .before .before .if1 .left) (c .if2 .taken) refl
+
+apply-requires : tie.Need-apply-requires
+apply-requires c κs = let s : tie.Start = c .before .before .before .before .before .before in op-low (s .pre .0) (c .before .before .if2 .left) (s .pre .1)
+
+returns-3 : tie.Need-returns-3
+returns-3 c = let s : tie.Start = c .before .before .before .before .before .before .before in at-op (P s) (s .args .at) (s .args .n) (c .before .before .before .if2 .left) (c .before .before .if3 .taken) (op-low (s .pre .0) (c .before .before .before .if2 .left) (s .pre .1)) (c .apply .ensures)
+
+small-requires : tie.Need-small-requires
+small-requires c κs = search needs
+
+apply-requires-2 : tie.Need-apply-requires-2
+unfolding opOf opAt
+apply-requires-2 c κs = record { op = rem; is = refl }
+
+apply-requires-3 : tie.Need-apply-requires-3
+apply-requires-3 c κs = let s : tie.Start = c .before .before .before .before .before .before .before .before .before in op-low (s .pre .0) (c .before .before .before .before .before .if2 .left) (s .pre .1)
+
+returns-4 : tie.Need-returns-4
+returns-4 c = let s : tie.Start = c .before .before .before .before .before .before .before .before .before .before in at-rest (P s) (s .args .at) (s .args .n) (c .before .before .before .before .before .if3 .left) (s .pre .1) (op-low (s .pre .0) (c .before .before .before .before .before .before .if2 .left) (s .pre .1)) (c .before .before .before .before .small .ensures) (c .before .before .apply2 .ensures) (c .apply3 .ensures)
 
 pub leaf-spec : {M : Type 1} → statement M
 leaf-spec =
-    tie.close (tie.spec element-copy-out-if1 returns mul-result element-copy-out-result returns-2)
+    tie.close
+    (tie.spec
+    element-copy-out-code
+    returns
+    mul-v
+    element-copy-out-v
+    returns-2
+    apply-requires
+    returns-3
+    small-requires
+    apply-requires-2
+    apply-requires-3
+    returns-4)

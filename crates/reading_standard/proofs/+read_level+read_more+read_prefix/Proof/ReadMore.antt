@@ -1,8 +1,8 @@
 -- The facts that `read_more` owes: by the token that stands next, one law of Levels.antt for each return; places and positions by omega.
 use Prim.Native.Nat.{ℕ}
+use mathlib.Core.Path.{sym}
 use native.Mathlib.Omega.{arith}
 use borrow.Author.Needs.{needs}
-use Rattle.reading_tokens.proofs.Rows.{code-of}
 use Rattle.reading_tokens.proofs.Nexts.{ended, signed, numbered, huge, marked, got-past, unpassed}
 use Rattle.reading_standard.proofs.Taken.{answered, gave}
 use Rattle.reading_standard.proofs.Levels.{more-end, more-num, more-other, more-byte, more-tight, more-bad, more-more, ask-bad, ask-open, ask-last, ask-ask}
@@ -37,7 +37,8 @@ add-if1 t c = search needs
 pub returns : (t : ℕ) → lts.Need-returns (Claimed t) (read-more-at t) read-more.Post
 returns t c =
     let c3 = c .before .before .before in
-    more-other (c3 .before .before .before .before .pre .1 .2 .left) ((signed _ _ (c3 .before .before .token-at .ensures) (c3 .x .given .1)) .step) (λ z. c .if1 .taken (omega (arith, c .before .rank-of .ensures, z)))
+    let w = (signed _ _ (c3 .before .before .token-at .ensures) (c3 .x .given .1)) in
+    more-other (c3 .before .before .before .before .pre .1 .2 .left) (w .step) (λ z. c .if1 .taken (omega (arith, c .before .rank-of .ensures .is (w .known .op) (w .known .is), z)))
 
 pub read-level-requires : (t : ℕ) → lts.Need-read-level-requires (Claimed t) (read-more-at t) read-more.Post
 read-level-requires t c κs =
@@ -56,15 +57,16 @@ pub returns-2 : (t : ℕ) → lts.Need-returns-2 (Claimed t) (read-more-at t) re
 returns-2 t c =
     let c6 = c .before .before .before .before .before .before in
     let c9 = c6 .before .before .before in
-    more-bad ((signed _ _ (c9 .before .before .token-at .ensures) (c9 .x .given .1)) .step) (omega (arith, c6 .before .rank-of .ensures, c6 .if1 .left)) (answered (c .before .before .read-level .ensures) (c .enum-told .given .1))
+    let w = (signed _ _ (c9 .before .before .token-at .ensures) (c9 .x .given .1)) in
+    more-bad (w .step) (omega (arith, c6 .before .rank-of .ensures .is (w .known .op) (w .known .is), c6 .if1 .left)) (answered (c .before .before .read-level .ensures) (c .enum-told .given .1))
 
 pub below-requires : (t : ℕ) → lts.Need-below-requires (Claimed t) (read-more-at t) read-more.Post
 below-requires t c κs =
     let s : St t = c .before .before .before .before .before .before .before .before .before .before .before .before .before .before .before .before .before in
     omega (arith, s .pre)
 
-pub below-requires-2 : (t : ℕ) → lts.Need-below-requires-2 (Claimed t) (read-more-at t) read-more.Post
-below-requires-2 t c κs =
+pub put-requires : (t : ℕ) → lts.Need-put-requires (Claimed t) (read-more-at t) read-more.Post
+put-requires t c κs =
     let c5 = c .before .before .before .before .before in
     let c14 = c5 .before .before .before .before .before .before .before .before .before in
     let s : St t = c14 .before .before .before .before in
@@ -72,31 +74,22 @@ below-requires-2 t c κs =
     let b = gave (c5 .before .before .read-level .ensures) (c5 .right .given .1) in
     omega (arith, s .pre, a .further, a .within, b .0, b .1, b .2)
 
-pub put-requires : (t : ℕ) → lts.Need-put-requires (Claimed t) (read-more-at t) read-more.Post
-put-requires t c κs =
-    let c6 = c .before .before .before .before .before .before in
-    let c15 = c6 .before .before .before .before .before .before .before .before .before in
-    let s : St t = c15 .before .before .before .before in
-    let a = (signed _ _ (c15 .before .before .token-at .ensures) (c15 .x .given .1)) .step in
-    let b = gave (c6 .before .before .read-level .ensures) (c6 .right .given .1) in
-    omega (arith, s .pre, a .further, a .within, b .0, b .1, b .2)
-
 pub add-read-more : (t : ℕ) → lts.Need-add-read-more (Claimed t) (read-more-at t) read-more.Post
 add-read-more t c =
-    let c10 = c .before .before .before .before .before .before .before .before .before .before in
-    let c19 = c10 .before .before .before .before .before .before .before .before .before in
-    let s : St t = c19 .before .before .before .before in
-    let a = (signed _ _ (c19 .before .before .token-at .ensures) (c19 .x .given .1)) .step in
-    let b = gave (c10 .before .before .read-level .ensures) (c10 .right .given .1) in
+    let c9 = c .before .before .before .before .before .before .before .before .before in
+    let c18 = c9 .before .before .before .before .before .before .before .before .before in
+    let s : St t = c18 .before .before .before .before in
+    let a = (signed _ _ (c18 .before .before .token-at .ensures) (c18 .x .given .1)) .step in
+    let b = gave (c9 .before .before .read-level .ensures) (c9 .right .given .1) in
     omega (arith, s .pre, a .further, a .within, b .0, b .1, b .2)
 
 pub read-more-requires : (t : ℕ) → lts.Need-read-more-requires (Claimed t) (read-more-at t) read-more.Post
 read-more-requires t c κs =
-    let c10 = c .before .before .before .before .before .before .before .before .before .before in
-    let c19 = c10 .before .before .before .before .before .before .before .before .before in
-    let s : St t = c19 .before .before .before .before in
-    let a = (signed _ _ (c19 .before .before .token-at .ensures) (c19 .x .given .1)) .step in
-    let b = gave (c10 .before .before .read-level .ensures) (c10 .right .given .1) in
+    let c9 = c .before .before .before .before .before .before .before .before .before in
+    let c18 = c9 .before .before .before .before .before .before .before .before .before in
+    let s : St t = c18 .before .before .before .before in
+    let a = (signed _ _ (c18 .before .before .token-at .ensures) (c18 .x .given .1)) .step in
+    let b = gave (c9 .before .before .read-level .ensures) (c9 .right .given .1) in
     omega (arith, s .pre, a .further, a .within, b .0, b .1, b .2)
 
 pub enum-known-x-2 : (t : ℕ) → lts.Need-enum-known-x-2 (Claimed t) (read-more-at t) read-more.Post
@@ -172,13 +165,13 @@ returns-7 t c =
     let c20 = c17 .before .before .before in
     ask-last (marked _ _ (c20 .before .before .token-at .ensures) (c20 .x2 .given .1)) (c17 .before .if2 .left) (c17 .if3 .left) (answered (c11 .before .before .read-level2 .ensures) (c11 .middle .given .1)) (got-past _ _ _ (c7 .before .before .past .ensures) (c7 .colon .given .1)) (answered (c .before .before .read-level3 .ensures) (c .enum-told4 .given .1))
 
-pub below-requires-3 : (t : ℕ) → lts.Need-below-requires-3 (Claimed t) (read-more-at t) read-more.Post
-below-requires-3 t c κs =
+pub below-requires-2 : (t : ℕ) → lts.Need-below-requires-2 (Claimed t) (read-more-at t) read-more.Post
+below-requires-2 t c κs =
     let s : St t = c .before .before .before .before .before .before .before .before .before .before .before .before .before .before .before .before .before .before .before .before .before .before .before .before .before .before .before .before in
     omega (arith, s .pre)
 
-pub below-requires-4 : (t : ℕ) → lts.Need-below-requires-4 (Claimed t) (read-more-at t) read-more.Post
-below-requires-4 t c κs =
+pub below-requires-3 : (t : ℕ) → lts.Need-below-requires-3 (Claimed t) (read-more-at t) read-more.Post
+below-requires-3 t c κs =
     let c5 = c .before .before .before .before .before in
     let c12 = c5 .before .before .before .before .before .before .before in
     let c16 = c12 .before .before .before .before in
@@ -190,8 +183,8 @@ below-requires-4 t c κs =
     let e = gave (c5 .before .before .read-level3 .ensures) (c5 .last .given .1) in
     omega (arith, s .pre, a .further, a .within, b .0, b .1, b .2, d .further, d .within, e .0, e .1, e .2)
 
-pub below-requires-5 : (t : ℕ) → lts.Need-below-requires-5 (Claimed t) (read-more-at t) read-more.Post
-below-requires-5 t c κs =
+pub put-requires-2 : (t : ℕ) → lts.Need-put-requires-2 (Claimed t) (read-more-at t) read-more.Post
+put-requires-2 t c κs =
     let c6 = c .before .before .before .before .before .before in
     let c13 = c6 .before .before .before .before .before .before .before in
     let c17 = c13 .before .before .before .before in
@@ -203,8 +196,8 @@ below-requires-5 t c κs =
     let e = gave (c6 .before .before .read-level3 .ensures) (c6 .last .given .1) in
     omega (arith, s .pre, a .further, a .within, b .0, b .1, b .2, d .further, d .within, e .0, e .1, e .2)
 
-pub put-requires-2 : (t : ℕ) → lts.Need-put-requires-2 (Claimed t) (read-more-at t) read-more.Post
-put-requires-2 t c κs =
+pub add-t55 : (t : ℕ) → lts.Need-add-t55 (Claimed t) (read-more-at t) read-more.Post
+add-t55 t c =
     let c7 = c .before .before .before .before .before .before .before in
     let c14 = c7 .before .before .before .before .before .before .before in
     let c18 = c14 .before .before .before .before in
@@ -214,19 +207,6 @@ put-requires-2 t c κs =
     let b = gave (c18 .before .before .read-level2 .ensures) (c18 .middle .given .1) in
     let d = (got-past _ _ _ (c14 .before .before .past .ensures) (c14 .colon .given .1)) in
     let e = gave (c7 .before .before .read-level3 .ensures) (c7 .last .given .1) in
-    omega (arith, s .pre, a .further, a .within, b .0, b .1, b .2, d .further, d .within, e .0, e .1, e .2)
-
-pub add-t57 : (t : ℕ) → lts.Need-add-t57 (Claimed t) (read-more-at t) read-more.Post
-add-t57 t c =
-    let c8 = c .before .before .before .before .before .before .before .before in
-    let c15 = c8 .before .before .before .before .before .before .before in
-    let c19 = c15 .before .before .before .before in
-    let c28 = c19 .before .before .before .before .before .before .before .before .before in
-    let s : St t = c28 .before .before .before .before in
-    let a = (marked _ _ (c28 .before .before .token-at .ensures) (c28 .x2 .given .1)) in
-    let b = gave (c19 .before .before .read-level2 .ensures) (c19 .middle .given .1) in
-    let d = (got-past _ _ _ (c15 .before .before .past .ensures) (c15 .colon .given .1)) in
-    let e = gave (c8 .before .before .read-level3 .ensures) (c8 .last .given .1) in
     omega (arith, s .pre, a .further, a .within, b .0, b .1, b .2, d .further, d .within, e .0, e .1, e .2)
 
 pub enum-told-5 : (t : ℕ) → lts.Need-enum-told-5 (Claimed t) (read-more-at t) read-more.Post
@@ -241,21 +221,21 @@ enum-told-6 t c = search needs
 pub returns-8 : (t : ℕ) → lts.Need-returns-8 (Claimed t) (read-more-at t) read-more.Post
 returns-8 t c =
     let c4 = c .before .before .before .before in
-    let c11 = c4 .before .before .before .before .before .before .before in
-    let c17 = c11 .before .before .before .before .before .before in
-    let c20 = c17 .before .before .before in
-    let w = (signed _ _ (c20 .before .before .token-at .ensures) (c20 .x .given .1)) in
-    more-more (w .step) (omega (arith, c17 .before .rank-of .ensures, c17 .if1 .left)) (code-of (w .known)) (answered (c11 .before .before .read-level .ensures) (c11 .right .given .1)) (c4 .before .before .below .ensures) (c4 .before .below2 .ensures) (c4 .put .ensures) (c .read-more .ensures)
+    let c10 = c4 .before .before .before .before .before .before in
+    let c16 = c10 .before .before .before .before .before .before in
+    let c19 = c16 .before .before .before in
+    let w = (signed _ _ (c19 .before .before .token-at .ensures) (c19 .x .given .1)) in
+    more-more (w .step) (omega (arith, c16 .before .rank-of .ensures .is (w .known .op) (w .known .is), c16 .if1 .left)) (sym (w .known .is)) (answered (c10 .before .before .read-level .ensures) (c10 .right .given .1)) (c4 .before .below .ensures) (c4 .put .ensures) (c .read-more .ensures)
 
 pub returns-9 : (t : ℕ) → lts.Need-returns-9 (Claimed t) (read-more-at t) read-more.Post
 returns-9 t c =
-    let c3 = c .before .before .before in
-    let c8 = c3 .before .before .before .before .before in
-    let c15 = c8 .before .before .before .before .before .before .before in
-    let c19 = c15 .before .before .before .before in
-    let c25 = c19 .before .before .before .before .before .before in
-    let c28 = c25 .before .before .before in
-    ask-ask (marked _ _ (c28 .before .before .token-at .ensures) (c28 .x2 .given .1)) (c25 .before .if2 .left) (c25 .if3 .left) (answered (c19 .before .before .read-level2 .ensures) (c19 .middle .given .1)) (got-past _ _ _ (c15 .before .before .past .ensures) (c15 .colon .given .1)) (answered (c8 .before .before .read-level3 .ensures) (c8 .last .given .1)) (c3 .below3 .ensures) (c .before .before .below4 .ensures) (c .before .below5 .ensures) (c .put2 .ensures)
+    let c2 = c .before .before in
+    let c7 = c2 .before .before .before .before .before in
+    let c14 = c7 .before .before .before .before .before .before .before in
+    let c18 = c14 .before .before .before .before in
+    let c24 = c18 .before .before .before .before .before .before in
+    let c27 = c24 .before .before .before in
+    ask-ask (marked _ _ (c27 .before .before .token-at .ensures) (c27 .x2 .given .1)) (c24 .before .if2 .left) (c24 .if3 .left) (answered (c18 .before .before .read-level2 .ensures) (c18 .middle .given .1)) (got-past _ _ _ (c14 .before .before .past .ensures) (c14 .colon .given .1)) (answered (c7 .before .before .read-level3 .ensures) (c7 .last .given .1)) (c2 .below2 .ensures) (c .before .below3 .ensures) (c .put2 .ensures)
 
 pub returns-10 : (t : ℕ) → lts.Need-returns-10 (Claimed t) (read-more-at t) read-more.Post
 returns-10 t c =

@@ -8,14 +8,13 @@ use Rattle.reading_standard.proofs.Prefixes.{prefix-end, prefix-op, pre
 use Rattle.reading_standard.proofs.+read_level+read_more+read_prefix.Proof.Cycle.{read-prefix-at, read-level-below}
 use Rattle.reading_standard.proofs.read_level.Reads as read-level
 use Rattle.rules.proofs.put.Reads as put-reads
-use Rattle.reading_standard.proofs.below.Reads as below-reads
 use Rattle.reading_tokens.proofs.past.Reads as past-reads
 use Rattle.reading_tokens.proofs.token_at.Reads as token-at-reads
 use Rattle.reading_standard.proofs.read_prefix.Reads as read-prefix
 use Rattle.reading_standard.proofs.+read_level+read_more+read_prefix.Lts-read_prefix as lts
 
 abbrev pub Claimed : ℕ → lts.Claims
-Claimed t = (token-at-reads.Asked, token-at-reads.Learnt, put-reads.Asked, put-reads.Learnt, read-level-below t, read-level.Post, below-reads.Asked, below-reads.Learnt, past-reads.Asked, past-reads.Learnt)
+Claimed t = (token-at-reads.Asked, token-at-reads.Learnt, put-reads.Asked, put-reads.Learnt, read-level-below t, read-level.Post, past-reads.Asked, past-reads.Learnt)
 
 abbrev St : ℕ → Type 0
 St t = lts.Start (Claimed t) (read-prefix-at t) read-prefix.Post
@@ -64,8 +63,8 @@ returns-2 t c =
     let c9 = c6 .before .before .before in
     not-bad (marked _ _ (c9 .before .before .token-at .ensures) (c9 .x .given .1)) (c6 .if2 .taken) (answered (c .before .before .read-level .ensures) (c .enum-told .given .1))
 
-pub below-requires : (t : ℕ) → lts.Need-below-requires (Claimed t) (read-prefix-at t) read-prefix.Post
-below-requires t c κs =
+pub put-requires-2 : (t : ℕ) → lts.Need-put-requires-2 (Claimed t) (read-prefix-at t) read-prefix.Post
+put-requires-2 t c κs =
     let c4 = c .before .before .before .before in
     let c13 = c4 .before .before .before .before .before .before .before .before .before in
     let s : St t = c13 .before .before .before .before in
@@ -73,8 +72,8 @@ below-requires t c κs =
     let b = gave (c4 .before .before .read-level .ensures) (c4 .negated .given .1) in
     omega (arith, s .pre, a .further, a .within, b .0, b .1, b .2)
 
-pub put-requires-2 : (t : ℕ) → lts.Need-put-requires-2 (Claimed t) (read-prefix-at t) read-prefix.Post
-put-requires-2 t c κs =
+pub add-t36 : (t : ℕ) → lts.Need-add-t36 (Claimed t) (read-prefix-at t) read-prefix.Post
+add-t36 t c =
     let c5 = c .before .before .before .before .before in
     let c14 = c5 .before .before .before .before .before .before .before .before .before in
     let s : St t = c14 .before .before .before .before in
@@ -82,21 +81,12 @@ put-requires-2 t c κs =
     let b = gave (c5 .before .before .read-level .ensures) (c5 .negated .given .1) in
     omega (arith, s .pre, a .further, a .within, b .0, b .1, b .2)
 
-pub add-t37 : (t : ℕ) → lts.Need-add-t37 (Claimed t) (read-prefix-at t) read-prefix.Post
-add-t37 t c =
-    let c6 = c .before .before .before .before .before .before in
-    let c15 = c6 .before .before .before .before .before .before .before .before .before in
-    let s : St t = c15 .before .before .before .before in
-    let a = (marked _ _ (c15 .before .before .token-at .ensures) (c15 .x .given .1)) in
-    let b = gave (c6 .before .before .read-level .ensures) (c6 .negated .given .1) in
-    omega (arith, s .pre, a .further, a .within, b .0, b .1, b .2)
-
 pub returns-3 : (t : ℕ) → lts.Need-returns-3 (Claimed t) (read-prefix-at t) read-prefix.Post
 returns-3 t c =
-    let c6 = c .before .before .before .before .before .before in
-    let c12 = c6 .before .before .before .before .before .before in
-    let c15 = c12 .before .before .before in
-    not-not (marked _ _ (c15 .before .before .token-at .ensures) (c15 .x .given .1)) (c12 .if2 .taken) (answered (c6 .before .before .read-level .ensures) (c6 .negated .given .1)) (c .before .below .ensures) (c .put2 .ensures)
+    let c5 = c .before .before .before .before .before in
+    let c11 = c5 .before .before .before .before .before .before in
+    let c14 = c11 .before .before .before in
+    not-not (marked _ _ (c14 .before .before .token-at .ensures) (c14 .x .given .1)) (c11 .if2 .taken) (answered (c5 .before .before .read-level .ensures) (c5 .negated .given .1)) (c .put2 .ensures)
 
 pub returns-4 : (t : ℕ) → lts.Need-returns-4 (Claimed t) (read-prefix-at t) read-prefix.Post
 returns-4 t c =
@@ -148,8 +138,8 @@ put-requires-3 t c κs =
     let a = (numbered _ _ (c4 .before .before .token-at .ensures) (c4 .x2 .given .1)) .step in
     omega (arith, s .pre, a .further, a .within)
 
-pub add-t45 : (t : ℕ) → lts.Need-add-t45 (Claimed t) (read-prefix-at t) read-prefix.Post
-add-t45 t c =
+pub add-t44 : (t : ℕ) → lts.Need-add-t44 (Claimed t) (read-prefix-at t) read-prefix.Post
+add-t44 t c =
     let c5 = c .before .before .before .before .before in
     let s : St t = c5 .before .before .before .before in
     let a = (numbered _ _ (c5 .before .before .token-at .ensures) (c5 .x2 .given .1)) .step in

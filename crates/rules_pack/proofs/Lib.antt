@@ -1,0 +1,3 @@
+mod Laws
+pub mod Unique
+pub mod Cases

@@ -1,0 +1,20 @@
+-- `rules_value::value_at` meets its contract: the flag decides. Assumes nothing.
+use Rattle.rules_value.proofs.Values.{failed, whole}
+use borrow.Author.Needs.{needs}
+use Rattle.rules_value.proofs.value_at.Statement.{statement}
+use Rattle.rules_value.proofs.value_at.Tie as tie
+use Rattle.rules_value.proofs.value_at.Reads as reads
+use Rattle.rules_value.proofs.value_at.Lts as lts
+use Rattle.rules_value.proofs.eval.Reads as eval-reads
+
+eval-requires : tie.Need-eval-requires
+eval-requires c κs = search needs
+
+returns : tie.Need-returns
+returns c = failed (c .before .eval .ensures) (c .if1 .taken)
+
+returns-2 : tie.Need-returns-2
+returns-2 c = whole (c .before .eval .ensures) (c .if1 .left)
+
+pub value-at-spec : {M : Type 1} → statement M
+value-at-spec = tie.close (tie.spec eval-requires returns returns-2)
