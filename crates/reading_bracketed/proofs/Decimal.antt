@@ -11,7 +11,8 @@ use borrow.Author.Tests.{ltb-true, ltb-false, lt-ltb, le-ltb, le-leb, ne-eqb}
 use Rattle.text.proofs.Tests.{by-test, taken, left}
 use Rattle.text_digits.specs.declared.Number.the-variants.{Whole}
 use Rattle.text_digits.specs.Digits.{digit, digitsFrom, integer}
-use Rattle.reading_bracketed.specs.Bracketed.{decimal, decimalIn}
+use Rattle.rules_text.specs.Bracketed.{decimal, decimalIn}
+use Rattle.rules_text.proofs.Decimal.{split, decimal-short, decimal-long}
 
 -- every byte is a digit
 pub data Digits : List ℕ → Type 0 where
@@ -34,9 +35,6 @@ value-joined : (a : ℕ) (s t : List ℕ) → value a (s ++ t) ≡ value (value 
 unfolding value
 value-joined a [] t = refl
 value-joined a (b ∷ s) t = value-joined (10 * a + (b - 48)) s t
-
-split : (v : ℕ) → 10 * (v / 10) + v % 10 ≡ v
-split v = div-add-mod v 10
 
 -- what is written is digits, at least one, and is the number; the first is 0 for 0 only
 pub record Writes (s : List ℕ) (v : ℕ) : Type 0 where
@@ -73,28 +71,6 @@ writes (suc f) v h =
 pub decimal-writes : (v : ℕ) → Writes (decimal v) v
 unfolding decimal
 decimal-writes v = writes (suc v) v (omega arith)
-
--- without fuel
-same-fuel : (f g v : ℕ) → v < f → v < g → decimalIn f v ≡ decimalIn g v
-unfolding decimalIn
-same-fuel zero g v h k = absurd (omega arith)
-same-fuel (suc f) zero v h k = absurd (omega arith)
-same-fuel (suc f) (suc g) v h k =
-    by-test (decimalIn (suc f) v ≡ decimalIn (suc g) v) (ltb v 10)
-    (λ e. rw (e, decimalIn))
-    (λ e.
-    rw (e, decimalIn) (ap (λ (s : List ℕ). s ++ (48 + v % 10) ∷ [])
-    (same-fuel f g (v / 10) (omega (arith, split v, ltb-false v 10 e)) (omega (arith, split v, ltb-false v 10 e)))))
-
-pub decimal-short : (v : ℕ) → v < 10 → decimal v ≡ (48 + v) ∷ []
-unfolding decimal decimalIn
-decimal-short v h = taken _ _ (lt-ltb v 10 h)
-
-pub decimal-long : (v : ℕ) → 10 ≤ v → decimal v ≡ decimal (v / 10) ++ (48 + v % 10) ∷ []
-unfolding decimal decimalIn
-decimal-long v h =
-    left _ _ (le-ltb v 10 h)
-    ∙ ap (λ (s : List ℕ). s ++ (48 + v % 10) ∷ []) (same-fuel v (suc (v / 10)) (v / 10) (omega (arith, split v)) (omega arith))
 
 -- a number below 10^k has at most k digits
 few-digits : (k v : ℕ) → v < 10 ^ suc k → length (decimal v) ≤ suc k

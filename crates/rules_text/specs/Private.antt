@@ -1,5 +1,5 @@
 -- What the functions behind the public one promise.
-use Prim.Native.Nat.{ℕ, _+_, _*_, _<_, _≤_}
+use Prim.Native.Nat.{ℕ, suc, _+_, _*_, _≤_}
 use Prim.Native.Char.{code}
 use mathlib.Core.Path.{_≡_}
 use mathlib.Core.Bool.{Bool, true, false, _||_}
@@ -17,7 +17,7 @@ use Rattle.rules_text.specs.Bracketed.{signOf, bracketed}
 -- bytes with those of a text from a place on
 unfoldable pub overlay : List ℕ → ℕ → List ℕ → List ℕ
 overlay old at [] = old
-overlay old at (b ∷ s) = overlay (set old at b) (at + 1) s
+overlay old at (b ∷ s) = overlay (set old at b) (suc at) s
 
 -- the place after a text; 513 if it does not fit
 abbrev pub ended : ℕ → List ℕ → ℕ
@@ -90,4 +90,4 @@ depth (Node p) = 4 * p + 3
 pub record Operand (P : Pool) (p : ℕ) (t : Tree) (r : Part) : Type 0 where
   pub is : partTree P r ≡ t
   pub held : Held P r
-  pub under : depth r < 4 * p
+  pub under : depth r ≤ 4 * p
