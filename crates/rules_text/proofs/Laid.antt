@@ -1,33 +1,23 @@
--- Bytes laid over others from a place on: one text after the other is their join, and from place 0 on it is the text and what was after it.
-use Prim.Native.Nat.{ℕ, zero, suc, _+_, _<_, _≤_}
+-- Texts put one after the other are their join put at once; a byte and a number are put. Assumes nothing.
+use Prim.Native.Nat.{ℕ, suc, _+_, _/_, _%_, _<_, _≤_}
 use mathlib.Core.Path.{_≡_, refl, sym, ap, _∙_}
 use mathlib.Core.Bool.{Bool, true, false}
 use mathlib.Core.List.{List, [], _∷_, _++_}
 use native.Mathlib.Omega.{arith}
 use lib.ListN.{length, set, drop, take, getD, length-append}
+use lib.Seq.{sets}
 use lib.Dec.{leb}
 use borrow.Author.Tests.{le-leb, lt-leb, leb-true, leb-false}
 use Rattle.text.proofs.Tests.{taken, left, by-test}
-use Rattle.rules_text.specs.Private.{overlay, ended, Puts}
+use Rattle.rules_text.specs.Bracketed.{decimal}
+use Rattle.rules_text.specs.Private.{ended, Puts}
+use Rattle.rules_text.proofs.Decimal.{decimal-short, decimal-long}
 
-pub overlay-joined : (old : List ℕ) (at : ℕ) (s t : List ℕ) → overlay (overlay old at s) (at + length s) t ≡ overlay old at (s ++ t)
-unfolding overlay
-overlay-joined old at [] t = ap (λ (i : ℕ). overlay old i t) (omega arith)
-overlay-joined old at (b ∷ s) t =
+pub sets-joined : (old : List ℕ) (at : ℕ) (s t : List ℕ) → sets (sets old at s) (at + length s) t ≡ sets old at (s ++ t)
+sets-joined old at [] t = ap (λ (i : ℕ). sets old i t) (omega arith)
+sets-joined old at (b ∷ s) t =
     let e : at + suc (length s) ≡ suc at + length s = omega arith in
-    ap (λ (i : ℕ). overlay (overlay (set old at b) (suc at) s) i t) e ∙ overlay-joined (set old at b) (suc at) s t
-
--- over the rest, the first byte left alone
-past : (b : ℕ) (old : List ℕ) (at : ℕ) (s : List ℕ) → overlay (b ∷ old) (suc at) s ≡ b ∷ overlay old at s
-unfolding overlay
-past b old at [] = refl
-past b old at (c ∷ s) = past b (set old at c) (suc at) s
-
-pub overlay-front : (old s : List ℕ) → length s ≤ length old → overlay old 0 s ≡ s ++ drop (length s) old
-unfolding overlay
-overlay-front old [] h = refl
-overlay-front [] (b ∷ s) h = absurd (omega arith)
-overlay-front (c ∷ old) (b ∷ s) h = past b old 0 s ∙ ap (λ (l : List ℕ). b ∷ l) (overlay-front old s (omega arith))
+    ap (λ (i : ℕ). sets (sets (set old at b) (suc at) s) i t) e ∙ sets-joined (set old at b) (suc at) s t
 
 -- where a text ends
 ended-in : (at : ℕ) (s : List ℕ) → at + length s ≤ 512 → ended at s ≡ at + length s
@@ -42,7 +32,6 @@ module _ (b at : ℕ) (x : List ℕ) where
   byte-out h = record { end = sym (ended-out at (b ∷ []) (omega arith)); text = λ l. absurd (omega arith) }
 
   pub byte-in : at < 512 → Puts (b ∷ []) at x (set x at b) (at + 1)
-  unfolding overlay
   byte-in h = record { end = sym (ended-in at (b ∷ []) (omega arith)); text = λ l. refl }
 
 -- one text after the other
@@ -60,5 +49,17 @@ joined {s} {t} {at} {q} {r} {x} {y} {z} v w = record {
   text = λ h.
       let l : at + length s ≤ 512 = omega (arith, length-append s t) in
       let d : q ≡ at + length s = v .end ∙ ended-in at s l in
-      w .text (omega (arith, length-append s t)) ∙ (ap (λ (i : ℕ). overlay y i t) d ∙ (ap (λ (o : List ℕ). overlay o (at + length s) t) (v .text l) ∙ overlay-joined x at s t));
+      w .text (omega (arith, length-append s t)) ∙ (ap (λ (i : ℕ). sets y i t) d ∙ (ap (λ (o : List ℕ). sets o (at + length s) t) (v .text l) ∙ sets-joined x at s t));
 }
+
+-- another text that is this one
+pub reworded : {s t : List ℕ} {at r : ℕ} {x y : List ℕ} → t ≡ s → Puts s at x y r → Puts t at x y r
+reworded e w = rw e w
+
+-- a number, its last digit last
+module _ (v at : ℕ) {b r : ℕ} {x z : List ℕ} where
+  pub number-short : v < 10 → b ≡ 48 + v → Puts (b ∷ []) at x z r → Puts (decimal v) at x z r
+  number-short h e w = reworded (decimal-short v h) (rw e at w)
+
+  pub number-long : {q : ℕ} {y : List ℕ} → 10 ≤ v → Puts (decimal (v / 10)) at x y q → b ≡ 48 + v % 10 → Puts (b ∷ []) q y z r → Puts (decimal v) at x z r
+  number-long h d e w = reworded (decimal-long v h) (joined d (rw e at w))

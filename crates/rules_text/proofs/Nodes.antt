@@ -2,12 +2,12 @@
 use Prim.Native.Nat.{ℕ, _-_, _*_, _+_, _<_, _≤_, _%_, _/_}
 use mathlib.Core.Path.{_≡_, refl, sym, ap, _∙_}
 use mathlib.Core.Bool.{Bool, true, false, _||_}
-use mathlib.Core.List.{List, [], _∷_, _++_}
+use mathlib.Core.List.{List, [], _∷_, _++_, append-assoc}
 use native.Mathlib.Omega.{arith}
 use lib.Dec.{eqb, leb, ltb}
 use borrow.Author.Tests.{lt-ltb, le-ltb, ne-eqb, ltb-true, ltb-false, leb-true, leb-false, eqb-true, eqb-false}
 use Rattle.text.proofs.Tests.{by-test, never}
-use Rattle.rules.specs.Tree.{Tree, var, int, nay, bin, cond, rem}
+use Rattle.rules.specs.Tree.{Tree, var, int, nay, bin, cond, Op, rem}
 use Rattle.rules.specs.Operator.{opOf, Named}
 use Rattle.rules.specs.Pool.{Pool, code, field, value, leaf, one, two, treeOf}
 use Rattle.rules.specs.Sound.{Sound}
@@ -22,13 +22,37 @@ record Binary (P : Pool) (p : ℕ) (s t : Tree) : Type 0 where
   named : Named (code P p % 16)
   is : treeOf P p ≡ bin (named .op) s t
 
--- what is written before the last operand of a binary operator
+-- its text is in brackets
+abbrev Whole : Tree → Type 0
+Whole t = bracketed t ≡ 40 ∷ (leadOf t ++ bracketed (lastOf t)) ++ 41 ∷ []
+
+not-whole : (t : Tree) → Whole (nay t)
+unfolding bracketed
+not-whole t = refl
+
+two-whole : (o : Op) (s t : Tree) → Whole (bin o s t)
+unfolding bracketed
+two-whole o s t = refl
+
+three-whole : (s t u : Tree) → Whole (cond s t u)
+unfolding bracketed
+three-whole s t u = ap (λ (l : List ℕ). 40 ∷ l ++ 41 ∷ []) (sym (append-assoc (bracketed s ++ 63 ∷ bracketed t) (58 ∷ []) (bracketed u)))
+
+-- what is written before the last operand of a binary operator, and of ?:
 pub record Signed (P : Pool) (p : ℕ) : Type 0 where
   pub named : Named (code P p % 16)
   pub is : leadOf (treeOf P p) ≡ bracketed (firstOf (treeOf P p)) ++ signBy (opOf (code P p % 16))
+  whole : Whole (treeOf P p)
 
 signed : {P : Pool} {p : ℕ} {s t : Tree} → Binary P p s t → Signed P p
-signed w = record { named = w .named; is = rw (w .is, w .named .is) }
+signed {s = s} {t = t} w = record { named = w .named; is = rw (w .is, w .named .is); whole = rw (w .is) (two-whole (w .named .op) s t) }
+
+pub record Asked (P : Pool) (p : ℕ) : Type 0 where
+  pub is : leadOf (treeOf P p) ≡ bracketed (firstOf (treeOf P p)) ++ 63 ∷ bracketed (secondOf (treeOf P p)) ++ 58 ∷ []
+  whole : Whole (treeOf P p)
+
+asked : {P : Pool} {p : ℕ} {s t u : Tree} → treeOf P p ≡ cond s t u → Asked P p
+asked {s = s} {t = t} {u = u} e = record { is = rw e; whole = rw e (three-whole s t u) }
 
 -- no code of ?:
 not-three : {c : ℕ} → ternary c ≡ false → c ≡ 49 → ⊥
@@ -166,10 +190,10 @@ module _ {P : Pool} {p : ℕ} (s : Sound P p) where
   pub lead-not : code P p ≡ 48 → leadOf (treeOf P p) ≡ 33 ∷ []
   lead-not h = ap leadOf (negation h)
 
-  pub lead-three : ternary (code P p) ≡ true → leadOf (treeOf P p) ≡ bracketed (firstOf (treeOf P p)) ++ 63 ∷ bracketed (secondOf (treeOf P p)) ++ 58 ∷ []
+  pub lead-three : ternary (code P p) ≡ true → Asked P p
   lead-three e =
-      either-three e (λ h. rw (pick (omega arith) (omega arith))) (λ h.
-      by-test _ (ltb (code P p) 112) (λ f. rw (choice h (ltb-true _ 112 f))) (λ f. rw (three (ltb-false _ 112 f))))
+      either-three e (λ h. asked (pick (omega arith) (omega arith))) (λ h.
+      by-test _ (ltb (code P p) 112) (λ f. asked (choice h (ltb-true _ 112 f))) (λ f. asked (three (ltb-false _ 112 f))))
 
   pub lead-sign : 15 < code P p → (code P p ≡ 48 → ⊥) → ternary (code P p) ≡ false → Signed P p
   lead-sign h f e =
@@ -180,3 +204,15 @@ module _ {P : Pool} {p : ℕ} (s : Sound P p) where
       (λ b.
       by-test _ (ltb (code P p) 80) (λ a. signed (value-op (ltb-false _ 64 b) (ltb-true _ 80 a))) (λ a.
       signed (op (ltb-false _ 80 a) (two-low (code P p) e))))))
+
+  pub in-brackets : 1 < code P p → Whole (treeOf P p)
+  in-brackets h =
+      by-test _ (eqb (code P p) 48) (λ e. rw (negation (eqb-true _ 48 e)) (not-whole (treeOf P (p - 1)))) (λ e.
+      by-test _ (ternary (code P p)) (λ d. lead-three d .whole) (λ d. lead-sign (operator h) (eqb-false _ 48 e) d .whole))
+
+pub over : {c : ℕ} → 47 < c → (c ≡ 48 → ⊥) → 48 < c
+over h d = omega arith
+
+-- a code that is not n's and not an integer's
+pub above : {c : ℕ} → (c ≡ 0 → ⊥) → (c ≡ 1 → ⊥) → 1 < c
+above h d = omega arith

@@ -1,11 +1,12 @@
 -- What the functions behind the public one promise.
-use Prim.Native.Nat.{ℕ, suc, _+_, _*_, _≤_}
+use Prim.Native.Nat.{ℕ, _+_, _*_, _≤_}
 use Prim.Native.Char.{code}
 use mathlib.Core.Path.{_≡_}
 use mathlib.Core.Bool.{Bool, true, false, _||_}
 use mathlib.Core.List.{List, [], _∷_, _++_}
 use mathlib.Core.Option.{Option, none, some}
-use lib.ListN.{length, set}
+use lib.ListN.{length}
+use lib.Seq.{sets}
 use lib.Dec.{leb, eqb}
 use Rattle.rules.specs.Tree.{Tree, var, int, nay, bin, cond, Op, rem}
 use Rattle.rules.specs.Pool.{Pool, treeOf}
@@ -14,11 +15,6 @@ use Rattle.rules_text.specs.declared.Part.{Part}
 use Rattle.rules_text.specs.declared.Part.the-variants.{N, Number, Rest, Node}
 use Rattle.rules_text.specs.Bracketed.{signOf, bracketed}
 
--- bytes with those of a text from a place on
-unfoldable pub overlay : List ℕ → ℕ → List ℕ → List ℕ
-overlay old at [] = old
-overlay old at (b ∷ s) = overlay (set old at b) (suc at) s
-
 -- the place after a text; 513 if it does not fit
 abbrev pub ended : ℕ → List ℕ → ℕ
 ended at s = elim (leb (at + length s) 512) [ true ↦ at + length s | false ↦ 513 ]
@@ -26,7 +22,7 @@ ended at s = elim (leb (at + length s) 512) [ true ↦ at + length s | false ↦
 -- a text was put from a place on if it fits, and r is the place after it
 pub record Puts (s : List ℕ) (at : ℕ) (old new : List ℕ) (r : ℕ) : Type 0 where
   pub end : r ≡ ended at s
-  pub text : at + length s ≤ 512 → new ≡ overlay old at s
+  pub text : at + length s ≤ 512 → new ≡ sets old at s
 
 abbrev pub signBy : Option Op → List ℕ
 signBy (some op) = signOf op

@@ -7,14 +7,15 @@ ghost use mathlib.Core.Path.{_≡_};
 ghost use mathlib.Core.Bool.{true};
 ghost use mathlib.Core.List.{[], _∷_};
 ghost use Prim.Native.Nat.{_<_, _≤_, _+_, _*_};
-ghost use lib.ListN.{length, getD, take};
+ghost use lib.ListN.{length, getD};
+ghost use lib.Seq.{paste};
 ghost use Rattle.rules.specs.Operator.{opOf, Named};
 ghost use Rattle.rules.specs.Tree.{bin, rem, var, int};
 ghost use Rattle.rules.specs.Pool.{pool, treeOf};
 ghost use Rattle.rules.specs.Sound.{Sound};
 ghost use Rattle.rules_text.specs.Bracketed.{decimal, bracketed};
 ghost use Rattle.rules_text.specs.Writing.{writingOf, leftBy};
-ghost use Rattle.rules_text.specs.Private.{Puts, overlay, signBy, firstOf, secondOf, lastOf, leadOf, ternary, partTree, Held, Operand};
+ghost use Rattle.rules_text.specs.Private.{Puts, signBy, firstOf, secondOf, lastOf, leadOf, ternary, partTree, Held, Operand};
 
 // The most bytes of a rule's text.
 const MOST: usize = 512;
@@ -232,13 +233,13 @@ fn put_node<'a>(
     put_byte(out, close, b')')
 }
 
-// Copies the first bytes of a text to the front of a buffer.
-fn copy<'a>(text: &'a [u8; 512], n: usize, buffer: &mut [u8])
-    requires { ⌜ (n ≤ 512) × (n ≤ length (now buffer)) ⌝ }
-    ensures { λ _. ⌜ now (buffer .exit) ≡ overlay (now (buffer .entry)) 0 (take n (now (text .entry))) ⌝ }
+// Copies a text to the front of a buffer.
+fn copy<'a>(text: &'a [u8], buffer: &mut [u8])
+    requires { ⌜ length (now text) ≤ length (now buffer) ⌝ }
+    ensures { λ _. ⌜ now (buffer .exit) ≡ paste (now (buffer .entry)) 0 (now (text .entry)) (length (now (text .entry))) ⌝ }
 {
     let mut i = 0;
-    while i < n {
+    while i < text.len() {
         buffer[i] = text[i];
         i += 1;
     }
@@ -267,6 +268,6 @@ pub fn write<'a>(
     if buffer.len() < n {
         return Writing::TooLong;
     }
-    copy(&text, n, buffer);
+    copy(&text[..n], buffer);
     Writing::Length(n)
 }

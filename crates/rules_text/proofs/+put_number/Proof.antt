@@ -1,3 +1,9 @@
+-- `rules_text::put_number` meets its contract: the digits before the last are those of the tenth part, and the number is the measure.
+use mathlib.Core.Path.{refl}
+use native.Mathlib.Omega.{arith}
+use borrow.Author.Needs.{needs}
+use Rattle.rules_text.proofs.Decimal.{split}
+use Rattle.rules_text.proofs.Laid.{number-short, number-long}
 use Prim.Native.Nat.{ℕ, _<_}
 use borrow.Fn.Kinds.{In}
 use borrow.Fn.PlainCycle.{Measures, is, falls, and}
@@ -9,7 +15,7 @@ use Rattle.rules_text.proofs.+put_number.{statement}
 use Rattle.rules_text.proofs.+put_number.Tie.{close}
 
 abbrev μ-put-number : Measures 1 put-number-kinds.ps ℕ
-μ-put-number κs a = ?
+μ-put-number κs a = a .1 .1 .0
 
 abbrev put-number-at : ℕ → In 1 put-number-kinds.ps
 put-number-at t =
@@ -22,41 +28,35 @@ put-number-below t =
 abbrev R-put-number : ℕ → put-number-lts.Claims
 R-put-number t = (put-byte-reads.Asked, put-byte-reads.Learnt, put-number-below t, put-number.Post)
 
--- src/lib.rt:59:41
+abbrev St : ℕ → Type 0
+St t = put-number-lts.Start (R-put-number t) (put-number-at t) put-number.Post
+
 put-number-cast-put-byte : (t : ℕ) → put-number-lts.Need-cast-put-byte (R-put-number t) (put-number-at t) put-number.Post
-put-number-cast-put-byte t c = ?
+put-number-cast-put-byte t c = search needs
 
--- src/lib.rt:59:34
 put-number-add-put-byte : (t : ℕ) → put-number-lts.Need-add-put-byte (R-put-number t) (put-number-at t) put-number.Post
-put-number-add-put-byte t c = ?
+put-number-add-put-byte t c = search needs
 
--- src/lib.rt:59:9
 put-number-put-byte-requires : (t : ℕ) → put-number-lts.Need-put-byte-requires (R-put-number t) (put-number-at t) put-number.Post
-put-number-put-byte-requires t c κs = ?
+put-number-put-byte-requires t c κs = search needs
 
--- src/lib.rt:59:9
 put-number-returns : (t : ℕ) → put-number-lts.Need-returns (R-put-number t) (put-number-at t) put-number.Post
-put-number-returns t c = ?
+put-number-returns t c = let s : St t = c .before .before .before in number-short (s .args .v) (s .args .at) (c .before .before .if1 .taken) refl (c .put-byte .ensures)
 
--- src/lib.rt:61:9
 put-number-put-number-requires : (t : ℕ) → put-number-lts.Need-put-number-requires (R-put-number t) (put-number-at t) put-number.Post
-put-number-put-number-requires t c κs = ?
+put-number-put-number-requires t c κs = let s : St t = c .before .before in (omega (arith, s .pre .0, split (s .args .v)), s .pre .1)
 
--- src/lib.rt:62:32
 put-number-cast-put-byte-2 : (t : ℕ) → put-number-lts.Need-cast-put-byte-2 (R-put-number t) (put-number-at t) put-number.Post
-put-number-cast-put-byte-2 t c = ?
+put-number-cast-put-byte-2 t c = search needs
 
--- src/lib.rt:62:25
 put-number-add-put-byte-2 : (t : ℕ) → put-number-lts.Need-add-put-byte-2 (R-put-number t) (put-number-at t) put-number.Post
-put-number-add-put-byte-2 t c = ?
+put-number-add-put-byte-2 t c = search needs
 
--- src/lib.rt:62:5
 put-number-put-byte-requires-2 : (t : ℕ) → put-number-lts.Need-put-byte-requires-2 (R-put-number t) (put-number-at t) put-number.Post
-put-number-put-byte-requires-2 t c κs = ?
+put-number-put-byte-requires-2 t c κs = search needs
 
--- src/lib.rt:55:1
 put-number-returns-2 : (t : ℕ) → put-number-lts.Need-returns-2 (R-put-number t) (put-number-at t) put-number.Post
-put-number-returns-2 t c = ?
+put-number-returns-2 t c = let s : St t = c .before .before .before .before .before in number-long (s .args .v) (s .args .at) (c .before .before .before .before .if1 .left) (c .before .before .put-number .ensures) refl (c .put-byte2 .ensures)
 
 pub +put-number-spec : {M : Type 1} → statement M
 +put-number-spec = close μ-put-number λ t. put-number-lts.spec (

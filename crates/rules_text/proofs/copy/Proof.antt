@@ -1,45 +1,45 @@
+-- `rules_text::copy` meets its contract. The loop's invariant: the bytes before i are the text's, and the others what they were.
+use Prim.Native.Nat.{_≤_, _-_}
+use mathlib.Core.Path.{_≡_, refl, ap, _∙_}
+use native.Mathlib.Omega.{arith}
+use lib.ListN.{length}
+use lib.Seq.{paste, paste-zero, paste-suc}
+use denote.Ref.{now}
+use borrow.Author.Needs.{needs}
 use Rattle.rules_text.proofs.copy.Statement.{statement}
 use Rattle.rules_text.proofs.copy.Tie as tie
 use Rattle.rules_text.proofs.copy.Reads as reads
 use Rattle.rules_text.proofs.copy.Lts as lts
 
 abbrev Inv-loop : tie.InvT-loop
-Inv-loop text n buffer₀ i₀ buffer i = ?
+Inv-loop text buffer₀ i₀ buffer i = (i ≤ length text) × (length buffer ≡ length buffer₀) × (buffer ≡ paste buffer₀ 0 text i)
 
 abbrev μ-loop : tie.MeasureT-loop
-μ-loop text n buffer₀ i₀ buffer i = ?
+μ-loop text buffer₀ i₀ buffer i = length text - i
 
--- src/lib.rt:241:5
 loop-holds : tie.Need-loop-holds Inv-loop μ-loop
-loop-holds c = ?
+loop-holds c = let s : tie.Start Inv-loop μ-loop = c in (omega arith, refl, paste-zero (now (s .args .buffer)) 0 (now (s .args .text)))
 
--- src/lib.rt:242:21
-element-copy-out-buffer : tie.Need-element-copy-out-buffer Inv-loop μ-loop
-element-copy-out-buffer c = ?
+shared-slice-read-buffer : tie.Need-shared-slice-read-buffer Inv-loop μ-loop
+shared-slice-read-buffer c = search needs
 
--- src/lib.rt:242:9
 slice-write-buffer : tie.Need-slice-write-buffer Inv-loop μ-loop
-slice-write-buffer c = ?
+slice-write-buffer c = search needs
 
--- src/lib.rt:243:9
 add-i : tie.Need-add-i Inv-loop μ-loop
-add-i c = ?
+add-i c = search needs
 
--- src/lib.rt:241:5
 loop-less : tie.Need-loop-less Inv-loop μ-loop
-loop-less c = ?
+loop-less c = search needs
 
--- src/lib.rt:241:5
 loop-again : tie.Need-loop-again Inv-loop μ-loop
-loop-again c = ?
+loop-again c = search needs
 
--- src/lib.rt:236:1
 same-length : tie.Need-same-length Inv-loop μ-loop
-same-length c = ?
+same-length c = search needs
 
--- src/lib.rt:236:1
 returns : tie.Need-returns Inv-loop μ-loop
-returns c = ?
+returns c = search needs
 
 pub copy-spec : {M : Type 1} → statement M
 copy-spec =
@@ -48,7 +48,7 @@ copy-spec =
     Inv-loop
     μ-loop
     loop-holds
-    element-copy-out-buffer
+    shared-slice-read-buffer
     slice-write-buffer
     add-i
     loop-less

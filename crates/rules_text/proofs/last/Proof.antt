@@ -1,3 +1,7 @@
+-- `rules_text::last` meets its contract: the code tells what the last operand is.
+use native.Mathlib.Omega.{arith}
+use Rattle.rules_text.proofs.Nodes.{last-before, last-not, last-pick, last-value}
+use Rattle.rules.proofs.Trees.{before-in}
 use borrow.Author.Needs.{needs}
 use Rattle.rules_text.proofs.last.Statement.{statement}
 use Rattle.rules_text.proofs.last.Tie as tie
@@ -5,49 +9,38 @@ use Rattle.rules_text.proofs.last.Reads as reads
 use Rattle.rules_text.proofs.last.Lts as lts
 use Rattle.rules.proofs.field.Reads as field-reads
 
--- src/lib.rt:151:16
 element-copy-out-code : tie.Need-element-copy-out-code
 element-copy-out-code c = search needs
 
--- src/lib.rt:153:27
 sub-t10 : tie.Need-sub-t10
-sub-t10 c = ?
+sub-t10 c = let s : tie.Start = c .before .before in omega (arith, before-in (s .pre .0) (omega arith))
 
--- src/lib.rt:153:9
 returns : tie.Need-returns
-returns c = ?
+returns c = let s : tie.Start = c .before .before in last-before (s .pre .0) (c .if1 .taken)
 
--- src/lib.rt:156:27
 sub-t11 : tie.Need-sub-t11
-sub-t11 c = ?
+sub-t11 c = let s : tie.Start = c .before .before .before in omega (arith, before-in (s .pre .0) (omega arith))
 
--- src/lib.rt:156:9
 returns-2 : tie.Need-returns-2
-returns-2 c = ?
+returns-2 c = let s : tie.Start = c .before .before .before in last-not (s .pre .0) (c .if2 .taken)
 
--- src/lib.rt:159:29
 field-requires : tie.Need-field-requires
 field-requires c κs = search needs
 
--- src/lib.rt:159:29
 cast-t13 : tie.Need-cast-t13
 cast-t13 c = search needs
 
--- src/lib.rt:159:9
 returns-3 : tie.Need-returns-3
-returns-3 c = ?
+returns-3 c = let s : tie.Start = c .before .before .before .before .before in last-pick (s .pre .0) (c .before .if3 .taken) (c .field .ensures)
 
--- src/lib.rt:161:18
 mul-t14 : tie.Need-mul-t14
 mul-t14 c = search needs
 
--- src/lib.rt:161:18
 element-copy-out-t17 : tie.Need-element-copy-out-t17
 element-copy-out-t17 c = search needs
 
--- src/lib.rt:141:1
 returns-4 : tie.Need-returns-4
-returns-4 c = ?
+returns-4 c = let s : tie.Start = c .before .before .before .before .before in last-value (s .pre .0) (s .pre .1) (c .before .before .before .if1 .left) (c .before .before .if2 .left) (c .before .if3 .left)
 
 pub last-spec : {M : Type 1} → statement M
 last-spec =

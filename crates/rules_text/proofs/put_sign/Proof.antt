@@ -1,3 +1,7 @@
+-- `rules_text::put_sign` meets its contract: the table's row is the operator's bytes (Signs.antt).
+use native.Mathlib.Omega.{arith}
+use Rattle.rules.proofs.Operators.{code-is, code-in}
+use Rattle.rules_text.proofs.Signs.{one-byte, two-bytes}
 use borrow.Author.Needs.{needs}
 use Rattle.rules_text.proofs.put_sign.Statement.{statement}
 use Rattle.rules_text.proofs.put_sign.Tie as tie
@@ -5,29 +9,23 @@ use Rattle.rules_text.proofs.put_sign.Reads as reads
 use Rattle.rules_text.proofs.put_sign.Lts as lts
 use Rattle.rules_text.proofs.put_byte.Reads as put-byte-reads
 
--- src/lib.rt:81:36
 array-read-put-byte : tie.Need-array-read-put-byte
-array-read-put-byte c = ?
+array-read-put-byte c = let s : tie.Start = c .before in let k = s .pre in omega (arith, code-is (s .args .op) (k .op) (k .is), code-in (k .op))
 
--- src/lib.rt:81:9
 put-byte-requires : tie.Need-put-byte-requires
 put-byte-requires c κs = search needs
 
--- src/lib.rt:82:13
 array-read-b : tie.Need-array-read-b
-array-read-b c = ?
+array-read-b c = let s : tie.Start = c .before .before in let k = s .pre in omega (arith, code-is (s .args .op) (k .op) (k .is), code-in (k .op))
 
--- src/lib.rt:84:9
 returns : tie.Need-returns
-returns c = ?
+returns c = let s : tie.Start = c .before .before .before in one-byte (s .pre) (c .before .put-byte .ensures) (c .if1 .taken)
 
--- src/lib.rt:86:5
 put-byte-requires-2 : tie.Need-put-byte-requires-2
 put-byte-requires-2 c κs = search needs
 
--- src/lib.rt:77:1
 returns-2 : tie.Need-returns-2
-returns-2 c = ?
+returns-2 c = let s : tie.Start = c .before .before .before .before .before in two-bytes (s .pre) (c .before .before .before .put-byte .ensures) (c .before .before .if1 .left) (c .put-byte2 .ensures)
 
 pub put-sign-spec : {M : Type 1} → statement M
 put-sign-spec =

@@ -1,3 +1,5 @@
+-- `rules_text::second` meets its contract: it is the value, or a node.
+use Rattle.rules_text.proofs.Nodes.{second-value, second-field}
 use borrow.Author.Needs.{needs}
 use Rattle.rules_text.proofs.second.Statement.{statement}
 use Rattle.rules_text.proofs.second.Tie as tie
@@ -5,29 +7,23 @@ use Rattle.rules_text.proofs.second.Reads as reads
 use Rattle.rules_text.proofs.second.Lts as lts
 use Rattle.rules.proofs.place.Reads as place-reads
 
--- src/lib.rt:134:8
 element-copy-out-if1 : tie.Need-element-copy-out-if1
 element-copy-out-if1 c = search needs
 
--- src/lib.rt:135:29
 mul-t9 : tie.Need-mul-t9
 mul-t9 c = search needs
 
--- src/lib.rt:135:29
 element-copy-out-t12 : tie.Need-element-copy-out-t12
 element-copy-out-t12 c = search needs
 
--- src/lib.rt:135:9
 returns : tie.Need-returns
-returns c = ?
+returns c = let s : tie.Start = c .before .before .before in second-value (s .pre .0) (s .pre .1) (c .before .if1 .taken)
 
--- src/lib.rt:137:16
 place-requires : tie.Need-place-requires
 place-requires c κs = search needs
 
--- src/lib.rt:124:1
 returns-2 : tie.Need-returns-2
-returns-2 c = ?
+returns-2 c = let s : tie.Start = c .before .before .before in second-field (s .pre .0) (c .before .if1 .left) (c .place .ensures)
 
 pub second-spec : {M : Type 1} → statement M
 second-spec =
