@@ -4,8 +4,8 @@ use mathlib.Core.Path.{_≡_, refl, sym, ap, _∙_}
 use mathlib.Core.Bool.{Bool, true, false}
 use mathlib.Core.List.{List, [], _∷_, _++_}
 use native.Mathlib.Omega.{arith}
-use lib.ListN.{length, set, drop, take, getD, length-append}
-use lib.Seq.{sets}
+use lib.ListN.{length, set, getD, length-append}
+use lib.Seq.{sets, paste, paste-suc}
 use lib.Dec.{leb}
 use borrow.Author.Tests.{le-leb, lt-leb, leb-true, leb-false}
 use Rattle.text.proofs.Tests.{taken, left, by-test}
@@ -63,3 +63,16 @@ module _ (v at : ℕ) {b r : ℕ} {x z : List ℕ} where
 
   pub number-long : {q : ℕ} {y : List ℕ} → 10 ≤ v → Puts (decimal (v / 10)) at x y q → b ≡ 48 + v % 10 → Puts (b ∷ []) q y z r → Puts (decimal v) at x z r
   number-long h d e w = reworded (decimal-long v h) (joined d (rw e at w))
+
+-- a turn of the loop that copies to the front of a buffer, and its end
+module _ (old s : List ℕ) {x : List ℕ} (i : ℕ) (e : x ≡ paste old 0 s i) where
+  pub copied : i < length old → i < length s → set x i (getD s i 0) ≡ paste old 0 s (i + 1)
+  copied h l =
+      let z : i ≡ 0 + i = omega arith in
+      let n : suc i ≡ i + 1 = omega arith in
+      ap (λ (y : List ℕ). set y i (getD s i 0)) e
+      ∙ (ap (λ (j : ℕ). set (paste old 0 s i) j (getD s i 0)) z
+      ∙ (paste-suc old 0 s i 0 (omega arith) l ∙ ap (λ (j : ℕ). paste old 0 s j) n))
+
+  pub copied-all : i ≤ length s → length s ≤ i → x ≡ paste old 0 s (length s)
+  copied-all h l = let n : i ≡ length s = omega arith in e ∙ ap (λ (j : ℕ). paste old 0 s j) n

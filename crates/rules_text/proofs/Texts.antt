@@ -46,6 +46,9 @@ node-held {P} {part} {p} {t} e d h = let f : 4 * p + 3 ≡ t = rw e at d in (ome
 pub operand-put : {P : Pool} {p at q : ℕ} {t : Tree} {r : Part} {x y : List ℕ} → Operand P p t r → Puts (bracketed (partTree P r)) at x y q → Puts (bracketed t) at x y q
 operand-put o w = rw (← o .is) w
 
+pub operand-down : {P : Pool} {p k t : ℕ} {s : Tree} {r : Part} → 4 * p < k → k ≡ t → Operand P p s r → (depth r < t) × Held P r
+operand-down h e o = (omega (arith, o .under), o .held)
+
 -- the node at a place
 module _ {P : Pool} {p : ℕ} (s : Sound P p) {at : ℕ} where
   pub put-count : {r : ℕ} {x y : List ℕ} → code P p ≡ 0 → Puts (110 ∷ []) at x y r → Puts (bracketed (treeOf P p)) at x y r

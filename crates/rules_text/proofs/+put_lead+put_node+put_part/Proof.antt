@@ -1,4 +1,14 @@
-use Prim.Native.Nat.{ℕ, _<_}
+-- `rules_text::put_node`, `put_lead` and `put_part` meet their contracts: the text of a tree is what stands before its last operand, and
+-- that operand's, in brackets. An operand's place is below its operator's, so the place is the measure.
+use mathlib.Core.Path.{sym, _∙_}
+use native.Mathlib.Omega.{arith}
+use denote.Ref.{now}
+use borrow.Author.Needs.{needs}
+use Rattle.rules.specs.Pool.{Pool, pool}
+use Rattle.rules_text.specs.Private.{depth}
+use Rattle.rules_text.proofs.Nodes.{operator, lead-sign, above}
+use Rattle.rules_text.proofs.Texts.{operand-put, operand-down, count-put, number-put, part-put, node-held, put-count, put-integer, put-operator, put-not, put-three, put-signed}
+use Prim.Native.Nat.{ℕ, _+_, _*_, _<_}
 use borrow.Fn.Kinds.{In}
 use borrow.Fn.PlainCycle.{Measures, is, falls, and}
 use Rattle.rules_text.proofs.put_lead.Reads as put-lead
@@ -22,13 +32,13 @@ use Rattle.rules_text.proofs.+put_lead+put_node+put_part.{statement}
 use Rattle.rules_text.proofs.+put_lead+put_node+put_part.Tie.{close}
 
 abbrev μ-put-lead : Measures 2 put-lead-kinds.ps ℕ
-μ-put-lead κs a = ?
+μ-put-lead κs a = 4 * a .1 .1 .1 .0 + 1
 
 abbrev μ-put-node : Measures 2 put-node-kinds.ps ℕ
-μ-put-node κs a = ?
+μ-put-node κs a = 4 * a .1 .1 .1 .0 + 2
 
 abbrev μ-put-part : Measures 2 put-part-kinds.ps ℕ
-μ-put-part κs a = ?
+μ-put-part κs a = depth (a .1 .1 .1 .0)
 
 abbrev put-lead-at : ℕ → In 2 put-lead-kinds.ps
 put-lead-at t = and 2 put-lead-kinds.ps (is 2 put-lead-kinds.ps μ-put-lead t) put-lead.Pre
@@ -60,157 +70,131 @@ R-put-node t = (put-byte-reads.Asked, put-byte-reads.Learnt, put-number-reads.As
 abbrev R-put-part : ℕ → put-part-lts.Claims
 R-put-part t = (put-byte-reads.Asked, put-byte-reads.Learnt, put-number-reads.Asked, put-number-reads.Learnt, put-rest-reads.Asked, put-rest-reads.Learnt, put-node-below t, put-node.Post)
 
--- src/lib.rt:198:16
+abbrev Lead : ℕ → Type 0
+Lead t = put-lead-lts.Start (R-put-lead t) (put-lead-at t) put-lead.Post
+
+abbrev Node : ℕ → Type 0
+Node t = put-node-lts.Start (R-put-node t) (put-node-at t) put-node.Post
+
+abbrev Part : ℕ → Type 0
+Part t = put-part-lts.Start (R-put-part t) (put-part-at t) put-part.Post
+
+abbrev P : {t : ℕ} → Part t → Pool
+P s = pool (now (s .args .codes)) (now (s .args .places)) (now (s .args .values))
+
 put-lead-element-copy-out-code : (t : ℕ) → put-lead-lts.Need-element-copy-out-code (R-put-lead t) (put-lead-at t) put-lead.Post
-put-lead-element-copy-out-code t c = ?
+put-lead-element-copy-out-code t c = search needs
 
--- src/lib.rt:200:9
 put-lead-put-byte-requires : (t : ℕ) → put-lead-lts.Need-put-byte-requires (R-put-lead t) (put-lead-at t) put-lead.Post
-put-lead-put-byte-requires t c κs = ?
+put-lead-put-byte-requires t c κs = search needs
 
--- src/lib.rt:200:9
 put-lead-returns : (t : ℕ) → put-lead-lts.Need-returns (R-put-lead t) (put-lead-at t) put-lead.Post
-put-lead-returns t c = ?
+put-lead-returns t c = let s : Lead t = c .before .before .before .before in put-not (s .pre .1 .0) (c .before .before .if1 .taken) (c .put-byte .ensures)
 
--- src/lib.rt:202:48
 put-lead-first-requires : (t : ℕ) → put-lead-lts.Need-first-requires (R-put-lead t) (put-lead-at t) put-lead.Post
-put-lead-first-requires t c κs = ?
+put-lead-first-requires t c κs = let s : Lead t = c .before .before in (s .pre .1 .0, ((operator (s .pre .1 .0) (s .pre .1 .1)), c .if1 .left))
 
--- src/lib.rt:202:9
 put-lead-put-part-requires : (t : ℕ) → put-lead-lts.Need-put-part-requires (R-put-lead t) (put-lead-at t) put-lead.Post
-put-lead-put-part-requires t c κs = ?
+put-lead-put-part-requires t c κs = let s : Lead t = c .before .before .before .before in operand-down (omega arith) (s .pre .0) (c .before .first .ensures)
 
--- src/lib.rt:203:8
 put-lead-is-ternary-requires : (t : ℕ) → put-lead-lts.Need-is-ternary-requires (R-put-lead t) (put-lead-at t) put-lead.Post
-put-lead-is-ternary-requires t c κs = ?
+put-lead-is-ternary-requires t c κs = search needs
 
--- src/lib.rt:204:13
 put-lead-put-byte-requires-2 : (t : ℕ) → put-lead-lts.Need-put-byte-requires-2 (R-put-lead t) (put-lead-at t) put-lead.Post
-put-lead-put-byte-requires-2 t c κs = ?
+put-lead-put-byte-requires-2 t c κs = search needs
 
--- src/lib.rt:205:53
 put-lead-second-requires : (t : ℕ) → put-lead-lts.Need-second-requires (R-put-lead t) (put-lead-at t) put-lead.Post
-put-lead-second-requires t c κs = ?
+put-lead-second-requires t c κs = let s : Lead t = c .before .before .before .before .before .before .before .before .before in (s .pre .1 .0, sym (c .before .before .before .is-ternary .ensures) ∙ c .before .before .if2 .taken)
 
--- src/lib.rt:205:13
 put-lead-put-part-requires-2 : (t : ℕ) → put-lead-lts.Need-put-part-requires-2 (R-put-lead t) (put-lead-at t) put-lead.Post
-put-lead-put-part-requires-2 t c κs = ?
+put-lead-put-part-requires-2 t c κs = let s : Lead t = c .before .before .before .before .before .before .before .before .before .before .before in operand-down (omega arith) (s .pre .0) (c .before .second .ensures)
 
--- src/lib.rt:206:9
 put-lead-put-byte-requires-3 : (t : ℕ) → put-lead-lts.Need-put-byte-requires-3 (R-put-lead t) (put-lead-at t) put-lead.Post
-put-lead-put-byte-requires-3 t c κs = ?
+put-lead-put-byte-requires-3 t c κs = search needs
 
--- src/lib.rt:206:9
 put-lead-returns-2 : (t : ℕ) → put-lead-lts.Need-returns-2 (R-put-lead t) (put-lead-at t) put-lead.Post
-put-lead-returns-2 t c = ?
+put-lead-returns-2 t c = let s : Lead t = c .before .before .before .before .before .before .before .before .before .before .before .before .before .before in put-three (s .pre .1 .0) (sym (c .before .before .before .before .before .before .before .before .is-ternary .ensures) ∙ c .before .before .before .before .before .before .before .if2 .taken) (operand-put (c .before .before .before .before .before .before .before .before .before .before .before .first .ensures) (c .before .before .before .before .before .before .before .before .before .put-part .ensures)) (c .before .before .before .before .before .put-byte2 .ensures) (operand-put (c .before .before .before .before .second .ensures) (c .before .before .put-part2 .ensures)) (c .put-byte3 .ensures)
 
--- src/lib.rt:208:5
 put-lead-put-sign-requires : (t : ℕ) → put-lead-lts.Need-put-sign-requires (R-put-lead t) (put-lead-at t) put-lead.Post
-put-lead-put-sign-requires t c κs = ?
+put-lead-put-sign-requires t c κs = let s : Lead t = c .before .before .before .before .before .before .before .before in lead-sign (s .pre .1 .0) (operator (s .pre .1 .0) (s .pre .1 .1)) (c .before .before .before .before .before .before .if1 .left) (sym (c .before .before .is-ternary .ensures) ∙ c .before .if2 .left) .named
 
--- src/lib.rt:186:1
 put-lead-returns-3 : (t : ℕ) → put-lead-lts.Need-returns-3 (R-put-lead t) (put-lead-at t) put-lead.Post
-put-lead-returns-3 t c = ?
+put-lead-returns-3 t c = let s : Lead t = c .before .before .before .before .before .before .before .before .before in put-signed (lead-sign (s .pre .1 .0) (operator (s .pre .1 .0) (s .pre .1 .1)) (c .before .before .before .before .before .before .before .if1 .left) (sym (c .before .before .before .is-ternary .ensures) ∙ c .before .before .if2 .left)) (operand-put (c .before .before .before .before .before .before .first .ensures) (c .before .before .before .before .put-part .ensures)) (c .put-sign .ensures)
 
--- src/lib.rt:223:16
 put-node-element-copy-out-code : (t : ℕ) → put-node-lts.Need-element-copy-out-code (R-put-node t) (put-node-at t) put-node.Post
-put-node-element-copy-out-code t c = ?
+put-node-element-copy-out-code t c = search needs
 
--- src/lib.rt:225:9
 put-node-put-byte-requires : (t : ℕ) → put-node-lts.Need-put-byte-requires (R-put-node t) (put-node-at t) put-node.Post
-put-node-put-byte-requires t c κs = ?
+put-node-put-byte-requires t c κs = search needs
 
--- src/lib.rt:225:9
 put-node-returns : (t : ℕ) → put-node-lts.Need-returns (R-put-node t) (put-node-at t) put-node.Post
-put-node-returns t c = ?
+put-node-returns t c = let s : Node t = c .before .before .before .before in put-count (s .pre .1) (c .before .before .if1 .taken) (c .put-byte .ensures)
 
--- src/lib.rt:228:36
 put-node-mul-put-number : (t : ℕ) → put-node-lts.Need-mul-put-number (R-put-node t) (put-node-at t) put-node.Post
-put-node-mul-put-number t c = ?
+put-node-mul-put-number t c = search needs
 
--- src/lib.rt:228:36
 put-node-element-copy-out-put-number : (t : ℕ) → put-node-lts.Need-element-copy-out-put-number (R-put-node t) (put-node-at t) put-node.Post
-put-node-element-copy-out-put-number t c = ?
+put-node-element-copy-out-put-number t c = search needs
 
--- src/lib.rt:228:9
 put-node-put-number-requires : (t : ℕ) → put-node-lts.Need-put-number-requires (R-put-node t) (put-node-at t) put-node.Post
-put-node-put-number-requires t c κs = ?
+put-node-put-number-requires t c κs = search needs
 
--- src/lib.rt:228:9
 put-node-returns-2 : (t : ℕ) → put-node-lts.Need-returns-2 (R-put-node t) (put-node-at t) put-node.Post
-put-node-returns-2 t c = ?
+put-node-returns-2 t c = let s : Node t = c .before .before .before .before .before .before in put-integer (s .pre .1) (c .before .before .before .if2 .taken) (c .put-number .ensures)
 
--- src/lib.rt:230:9
 put-node-put-byte-requires-2 : (t : ℕ) → put-node-lts.Need-put-byte-requires-2 (R-put-node t) (put-node-at t) put-node.Post
-put-node-put-byte-requires-2 t c κs = ?
+put-node-put-byte-requires-2 t c κs = search needs
 
--- src/lib.rt:231:9
 put-node-put-lead-requires : (t : ℕ) → put-node-lts.Need-put-lead-requires (R-put-node t) (put-node-at t) put-node.Post
-put-node-put-lead-requires t c κs = ?
+put-node-put-lead-requires t c κs = let s : Node t = c .before .before .before .before .before .before in (omega (arith, s .pre .0), (s .pre .1, (above (c .before .before .before .before .if1 .left) (c .before .before .before .if2 .left))))
 
--- src/lib.rt:232:49
 put-node-last-requires : (t : ℕ) → put-node-lts.Need-last-requires (R-put-node t) (put-node-at t) put-node.Post
-put-node-last-requires t c κs = ?
+put-node-last-requires t c κs = let s : Node t = c .before .before .before .before .before .before .before in (s .pre .1, (above (c .before .before .before .before .before .if1 .left) (c .before .before .before .before .if2 .left)))
 
--- src/lib.rt:232:9
 put-node-put-part-requires : (t : ℕ) → put-node-lts.Need-put-part-requires (R-put-node t) (put-node-at t) put-node.Post
-put-node-put-part-requires t c κs = ?
+put-node-put-part-requires t c κs = let s : Node t = c .before .before .before .before .before .before .before .before .before in operand-down (omega arith) (s .pre .0) (c .before .last .ensures)
 
--- src/lib.rt:233:5
 put-node-put-byte-requires-3 : (t : ℕ) → put-node-lts.Need-put-byte-requires-3 (R-put-node t) (put-node-at t) put-node.Post
-put-node-put-byte-requires-3 t c κs = ?
+put-node-put-byte-requires-3 t c κs = search needs
 
--- src/lib.rt:212:1
 put-node-returns-3 : (t : ℕ) → put-node-lts.Need-returns-3 (R-put-node t) (put-node-at t) put-node.Post
-put-node-returns-3 t c = ?
+put-node-returns-3 t c = let s : Node t = c .before .before .before .before .before .before .before .before .before .before .before .before in put-operator (s .pre .1) (above (c .before .before .before .before .before .before .before .before .before .before .if1 .left) (c .before .before .before .before .before .before .before .before .before .if2 .left)) (c .before .before .before .before .before .before .before .put-byte2 .ensures) (c .before .before .before .before .before .put-lead .ensures) (operand-put (c .before .before .before .before .last .ensures) (c .before .before .put-part .ensures)) (c .put-byte3 .ensures)
 
--- src/lib.rt:178:29
 put-part-enum-told : (t : ℕ) → put-part-lts.Need-enum-told (R-put-part t) (put-part-at t) put-part.Post
-put-part-enum-told t c = ?
+put-part-enum-told t c = search needs
 
--- src/lib.rt:178:20
 put-part-put-byte-requires : (t : ℕ) → put-part-lts.Need-put-byte-requires (R-put-part t) (put-part-at t) put-part.Post
-put-part-put-byte-requires t c κs = ?
+put-part-put-byte-requires t c κs = search needs
 
--- src/lib.rt:179:22
 put-part-enum-known-part : (t : ℕ) → put-part-lts.Need-enum-known-part (R-put-part t) (put-part-at t) put-part.Post
-put-part-enum-known-part t c = ?
+put-part-enum-known-part t c = search needs
 
--- src/lib.rt:179:28
 put-part-put-number-requires : (t : ℕ) → put-part-lts.Need-put-number-requires (R-put-part t) (put-part-at t) put-part.Post
-put-part-put-number-requires t c κs = ?
+put-part-put-number-requires t c κs = search needs
 
--- src/lib.rt:180:20
 put-part-enum-known-part-2 : (t : ℕ) → put-part-lts.Need-enum-known-part-2 (R-put-part t) (put-part-at t) put-part.Post
-put-part-enum-known-part-2 t c = ?
+put-part-enum-known-part-2 t c = search needs
 
--- src/lib.rt:180:26
 put-part-put-rest-requires : (t : ℕ) → put-part-lts.Need-put-rest-requires (R-put-part t) (put-part-at t) put-part.Post
-put-part-put-rest-requires t c κs = ?
+put-part-put-rest-requires t c κs = search needs
 
--- src/lib.rt:181:20
 put-part-enum-known-part-3 : (t : ℕ) → put-part-lts.Need-enum-known-part-3 (R-put-part t) (put-part-at t) put-part.Post
-put-part-enum-known-part-3 t c = ?
+put-part-enum-known-part-3 t c = search needs
 
--- src/lib.rt:181:26
 put-part-put-node-requires : (t : ℕ) → put-part-lts.Need-put-node-requires (R-put-part t) (put-part-at t) put-part.Post
-put-part-put-node-requires t c κs = ?
+put-part-put-node-requires t c κs = let s : Part t = c .before .before .before .before in node-held (c .before .before .part3 .given .1) (s .pre .0) (s .pre .1)
 
--- src/lib.rt:166:1
 put-part-returns : (t : ℕ) → put-part-lts.Need-returns (R-put-part t) (put-part-at t) put-part.Post
-put-part-returns t c = ?
+put-part-returns t c = let s : Part t = c .before .before .before .before in count-put (P s) (c .before .before .enum-told .given .1) (c .put-byte .ensures)
 
--- src/lib.rt:166:1
 put-part-returns-2 : (t : ℕ) → put-part-lts.Need-returns-2 (R-put-part t) (put-part-at t) put-part.Post
-put-part-returns-2 t c = ?
+put-part-returns-2 t c = let s : Part t = c .before .before .before .before .before in number-put (P s) (c .before .before .before .part .given .1) (c .put-number .ensures)
 
--- src/lib.rt:166:1
 put-part-returns-3 : (t : ℕ) → put-part-lts.Need-returns-3 (R-put-part t) (put-part-at t) put-part.Post
-put-part-returns-3 t c = ?
+put-part-returns-3 t c = let s : Part t = c .before .before .before .before .before in part-put (P s) (c .before .before .before .part2 .given .1) (c .put-rest .ensures)
 
--- src/lib.rt:166:1
 put-part-returns-4 : (t : ℕ) → put-part-lts.Need-returns-4 (R-put-part t) (put-part-at t) put-part.Post
-put-part-returns-4 t c = ?
+put-part-returns-4 t c = let s : Part t = c .before .before .before .before .before in part-put (P s) (c .before .before .before .part3 .given .1) (c .put-node .ensures)
 
 pub +put-lead+put-node+put-part-spec : {M : Type 1} → statement M
 +put-lead+put-node+put-part-spec = close μ-put-lead μ-put-node μ-put-part (λ t. put-lead-lts.spec (

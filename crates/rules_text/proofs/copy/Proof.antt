@@ -1,11 +1,12 @@
 -- `rules_text::copy` meets its contract. The loop's invariant: the bytes before i are the text's, and the others what they were.
 use Prim.Native.Nat.{_≤_, _-_}
-use mathlib.Core.Path.{_≡_, refl, ap, _∙_}
+use mathlib.Core.Path.{_≡_, refl, _∙_}
 use native.Mathlib.Omega.{arith}
-use lib.ListN.{length}
-use lib.Seq.{paste, paste-zero, paste-suc}
+use lib.ListN.{length, length-set}
+use lib.Seq.{paste, paste-zero}
 use denote.Ref.{now}
 use borrow.Author.Needs.{needs}
+use Rattle.rules_text.proofs.Laid.{copied, copied-all}
 use Rattle.rules_text.proofs.copy.Statement.{statement}
 use Rattle.rules_text.proofs.copy.Tie as tie
 use Rattle.rules_text.proofs.copy.Reads as reads
@@ -33,13 +34,13 @@ loop-less : tie.Need-loop-less Inv-loop μ-loop
 loop-less c = search needs
 
 loop-again : tie.Need-loop-again Inv-loop μ-loop
-loop-again c = search needs
+loop-again c = let s : tie.Start Inv-loop μ-loop = c .before .before .before in (omega arith, length-set _ _ _ ∙ c .before .before .loop .inv .1, copied (now (s .args .buffer)) (now (s .args .text)) _ (c .before .before .loop .inv .2) (omega (arith, s .pre, c .before .before .loop .inv .1)) (c .before .loop-test .taken))
 
 same-length : tie.Need-same-length Inv-loop μ-loop
 same-length c = search needs
 
 returns : tie.Need-returns Inv-loop μ-loop
-returns c = search needs
+returns c = let s : tie.Start Inv-loop μ-loop = c .before .before in copied-all (now (s .args .buffer)) (now (s .args .text)) _ (c .before .loop .inv .2) (c .before .loop .inv .0) (omega arith)
 
 pub copy-spec : {M : Type 1} → statement M
 copy-spec =
