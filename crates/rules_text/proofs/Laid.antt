@@ -4,7 +4,7 @@ use mathlib.Core.Path.{_≡_, refl, sym, ap, _∙_}
 use mathlib.Core.Bool.{Bool, true, false}
 use mathlib.Core.List.{List, [], _∷_, _++_}
 use native.Mathlib.Omega.{arith}
-use lib.ListN.{length, set, getD, length-append}
+use lib.ListN.{length, set, getD, length-append, length-set}
 use lib.Seq.{sets, paste, paste-suc}
 use lib.Dec.{leb}
 use borrow.Author.Tests.{le-leb, lt-leb, leb-true, leb-false}
@@ -66,13 +66,16 @@ module _ (v at : ℕ) {b r : ℕ} {x z : List ℕ} where
 
 -- a turn of the loop that copies to the front of a buffer, and its end
 module _ (old s : List ℕ) {x : List ℕ} (i : ℕ) (e : x ≡ paste old 0 s i) where
-  pub copied : i < length old → i < length s → set x i (getD s i 0) ≡ paste old 0 s (i + 1)
-  copied h l =
+  pub copied :
+      length x ≡ length old → i < length old → i < length s →
+      (length (set x i (getD s i 0)) ≡ length old) × (set x i (getD s i 0) ≡ paste old 0 s (i + 1))
+  copied k h l =
       let z : i ≡ 0 + i = omega arith in
       let n : suc i ≡ i + 1 = omega arith in
+      (length-set x i (getD s i 0) ∙ k,
       ap (λ (y : List ℕ). set y i (getD s i 0)) e
       ∙ (ap (λ (j : ℕ). set (paste old 0 s i) j (getD s i 0)) z
-      ∙ (paste-suc old 0 s i 0 (omega arith) l ∙ ap (λ (j : ℕ). paste old 0 s j) n))
+      ∙ (paste-suc old 0 s i 0 (omega arith) l ∙ ap (λ (j : ℕ). paste old 0 s j) n)))
 
   pub copied-all : i ≤ length s → length s ≤ i → x ≡ paste old 0 s (length s)
   copied-all h l = let n : i ≡ length s = omega arith in e ∙ ap (λ (j : ℕ). paste old 0 s j) n

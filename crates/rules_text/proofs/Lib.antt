@@ -3,3 +3,4 @@ pub mod Laid
 pub mod Signs
 pub mod Nodes
 pub mod Texts
+pub mod Writings

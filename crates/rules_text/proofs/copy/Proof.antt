@@ -1,8 +1,8 @@
 -- `rules_text::copy` meets its contract. The loop's invariant: the bytes before i are the text's, and the others what they were.
 use Prim.Native.Nat.{_≤_, _-_}
-use mathlib.Core.Path.{_≡_, refl, _∙_}
+use mathlib.Core.Path.{_≡_, refl}
 use native.Mathlib.Omega.{arith}
-use lib.ListN.{length, length-set}
+use lib.ListN.{length}
 use lib.Seq.{paste, paste-zero}
 use denote.Ref.{now}
 use borrow.Author.Needs.{needs}
@@ -34,7 +34,7 @@ loop-less : tie.Need-loop-less Inv-loop μ-loop
 loop-less c = search needs
 
 loop-again : tie.Need-loop-again Inv-loop μ-loop
-loop-again c = let s : tie.Start Inv-loop μ-loop = c .before .before .before in (omega arith, length-set _ _ _ ∙ c .before .before .loop .inv .1, copied (now (s .args .buffer)) (now (s .args .text)) _ (c .before .before .loop .inv .2) (omega (arith, s .pre, c .before .before .loop .inv .1)) (c .before .loop-test .taken))
+loop-again c = let s : tie.Start Inv-loop μ-loop = c .before .before .before in let d = copied (now (s .args .buffer)) (now (s .args .text)) _ (c .before .before .loop .inv .2) (c .before .before .loop .inv .1) (omega (arith, s .pre)) (c .before .loop-test .taken) in (omega arith, d .0, d .1)
 
 same-length : tie.Need-same-length Inv-loop μ-loop
 same-length c = search needs
