@@ -4,3 +4,5 @@ pub mod Signs
 pub mod Nodes
 pub mod Texts
 pub mod Writings
+pub mod Unique
+pub mod Cases
