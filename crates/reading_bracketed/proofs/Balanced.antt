@@ -13,7 +13,7 @@ use Rattle.text.proofs.Tests.{never, taken, left, by-test, and-left, and-right}
 use Rattle.reading_scan.specs.Scan.{stands, counted, indexFrom, indexOf, deeper, further, endFrom}
 use Rattle.reading_scan.specs.Promise.{matched}
 use Rattle.reading_scan.proofs.Scanned.{further-le}
-use Rattle.reading_bracketed.specs.Bracketed.{brackets}
+use Rattle.rules_text.specs.Bracketed.{brackets}
 use Rattle.reading_bracketed.proofs.Decimal.{Digits, none, one}
 use Rattle.reading_bracketed.proofs.Marks.{inner, sign, Sign, one-byte, two-bytes, never-inner, digit-inner, sign-no-open, sign-no-close}
 

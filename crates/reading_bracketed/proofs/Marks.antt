@@ -11,7 +11,7 @@ use Rattle.text.proofs.Tests.{never, by-test, and-left, and-right}
 use Rattle.text_digits.specs.Digits.{digit}
 use Rattle.rules.specs.Tree.{Tree, var, int, nay, bin, cond, Op, cmp, and, or, rem, eq, ne, ge, le, gt, lt}
 use Rattle.text.specs.Bytes.{all}
-use Rattle.reading_bracketed.specs.Bracketed.{signOf, bracketed}
+use Rattle.rules_text.specs.Bracketed.{signOf, bracketed}
 use Rattle.reading_bracketed.proofs.Decimal.{Digits, one, decimal-writes}
 
 -- what operands are made of: brackets, digits, n

@@ -17,7 +17,8 @@ use Rattle.text_digits.specs.Digits.{digitsFrom, integer}
 use Rattle.reading_scan.specs.Scan.{indexOf, endFrom}
 use Rattle.levels.specs.Levels.{Kind, binary, ternary, Row, row, rows, found}
 use Rattle.reading_shipped.specs.Shipped.{one, two, three, readInt, bang, colon, readNot, choose, level, inside, parens, parseIn, shipped}
-use Rattle.reading_bracketed.specs.Bracketed.{signOf, brackets, bracketed, decimal, Bounded}
+use Rattle.rules_text.specs.Bracketed.{signOf, brackets, bracketed, decimal}
+use Rattle.reading_bracketed.specs.Bounded.{Bounded}
 use Rattle.reading_bracketed.proofs.Decimal.{Digits, decimal-writes, shipped-integer}
 use Rattle.reading_bracketed.proofs.Decimal as decimals
 use Rattle.reading_bracketed.proofs.Marks.{sign, Sign, one-byte, two-bytes, signs, all-signs, sign-no-open}

@@ -10,7 +10,7 @@ use Rattle.text.specs.Bytes.{all}
 use Rattle.text_trim.specs.Trim.{six, trim, trimStart, trimEnd}
 use Rattle.text.proofs.Tests.{and-left, and-right}
 use Rattle.rules.specs.Tree.{Tree, var, int, nay, bin, cond}
-use Rattle.reading_bracketed.specs.Bracketed.{brackets, bracketed}
+use Rattle.rules_text.specs.Bracketed.{brackets, bracketed}
 use Rattle.reading_bracketed.proofs.Decimal.{Digits, none, one, decimal-writes}
 use Rattle.reading_bracketed.proofs.Marks.{visible, Sign, one-byte, two-bytes, signs, sign-visible}
 
