@@ -1,17 +1,16 @@
 -- Document 02, n: "Both readings of that text give this very tree." Assumes nothing.
-use Prim.Native.Nat.{ℕ, zero, suc, _-_, _<_, _≤_, _^_}
+use Prim.Native.Nat.{_≤_}
 use mathlib.Core.Path.{_≡_, ap, _∙_}
-use mathlib.Core.Bool.{Bool, true, false}
+use mathlib.Core.Bool.{true, false}
 use native.Mathlib.Omega.{arith}
 use lib.ListN.{length}
-use lib.Dec.{ltb, eqb}
+use lib.Dec.{ltb}
 use borrow.Author.Tests.{le-ltb}
 use Rattle.text.proofs.Tests.{taken, left}
-use Rattle.rules.specs.Tree.{Tree, var, int, nay, bin, cond, tree}
-use Rattle.rules.specs.Store.{size}
+use Rattle.rules.specs.Tree.{Tree, tree}
 use Rattle.reading_rule.specs.declared.Reading.{Reading}
 use Rattle.reading_rule.specs.declared.Reading.the-variants.{Shipped, Standard}
-use Rattle.reading_rule.specs.Plurals.{rule, readAs, made, tested, parsed, treeIn, Parses}
+use Rattle.reading_rule.specs.Plurals.{rule, readAs, made, tested, parsed}
 use Rattle.rules_text.specs.Bracketed.{bracketed}
 use Rattle.reading_bracketed.specs.Bounded.{Bounded}
 use Rattle.reading_bracketed.proofs.Visible.{seen, trim-visible, ascii-visible}

@@ -1,4 +1,4 @@
--- The trees whose texts are read back: document 01, "Two readings of a rule": a number of 2^64 or more has no reading.
+-- The trees whose texts are read back. Document 01, "Two readings of a rule": an integer "above 2^64-1 is 6", no rule.
 use Prim.Native.Nat.{_^_, _<_}
 use Rattle.rules.specs.Tree.{Tree, var, int, nay, bin, cond}
 

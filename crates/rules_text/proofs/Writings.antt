@@ -1,6 +1,6 @@
 -- The answer and what is left in the buffer, from what the walk put and where it ended.
 use Prim.Native.Nat.{ℕ, _+_, _<_, _≤_}
-use mathlib.Core.Path.{_≡_, sym, ap, _∙_}
+use mathlib.Core.Path.{_≡_, refl, sym, ap, _∙_}
 use mathlib.Core.Bool.{Bool, true, false, _&&_}
 use mathlib.Core.List.{List, [], _∷_, _++_}
 use native.Mathlib.Omega.{arith}
@@ -14,7 +14,7 @@ use Rattle.rules.specs.Pool.{Pool, treeOf, isTree}
 use Rattle.rules_text.specs.declared.Writing.{Writing}
 use Rattle.rules_text.specs.declared.Writing.the-variants.{Length, TooLong, NoTree}
 use Rattle.rules_text.specs.Bracketed.{bracketed}
-use Rattle.rules_text.specs.Writing.{fitted, writingOf}
+use Rattle.rules_text.specs.Writing.{fitted, writingOf, leftBy}
 use Rattle.rules_text.specs.Private.{Puts}
 
 -- a text put from place 0 on, which ended at n
@@ -74,3 +74,39 @@ module _ (P : Pool) (count root room : ℕ) where
   pub a-tree : {r : Writing} → isTree P count root ≡ true → r ≡ fitted (bracketed (treeOf P root)) room → r ≡ writingOf P count root room
   unfolding writingOf
   a-tree e d = d ∙ sym (taken _ _ e)
+
+-- what an answer with a length says
+pub record Written (P : Pool) (count root room n : ℕ) : Type 0 where
+  pub tree : isTree P count root ≡ true
+  pub length-is : n ≡ length (bracketed (treeOf P root))
+  pub few : n ≤ 512
+  pub inside : n ≤ room
+
+-- only a text that fits has one
+fitted-length : (s : List ℕ) (room n : ℕ) → fitted s room ≡ Length n → (n ≡ length s) × (n ≤ 512) × (n ≤ room)
+fitted-length s room n = go (leb (length s) 512) (leb (length s) room) refl refl
+  where
+    go :
+        (a b : Bool) → leb (length s) 512 ≡ a → leb (length s) room ≡ b →
+        _≡_ {A = Writing} (elim (a && b) [ true ↦ Length (length s) | false ↦ TooLong ]) (Length n) → (n ≡ length s) × (n ≤ 512) × (n ≤ room)
+    go true true f g e =
+        let d : n ≡ length s = cc in
+        let h = leb-true (length s) 512 f in
+        let l = leb-true (length s) room g in
+        (d, omega arith, omega arith)
+    go true false f g e = let z : _≡_ {A = ℕ} 0 1 = cc in absurd (omega arith)
+    go false b f g e = let z : _≡_ {A = ℕ} 0 1 = cc in absurd (omega arith)
+
+module _ (P : Pool) (count root room n : ℕ) where
+  pub written : writingOf P count root room ≡ Length n → Written P count root room n
+  unfolding writingOf
+  written e =
+      by-test (Written P count root room n) (isTree P count root)
+      (λ t.
+      let f = fitted-length (bracketed (treeOf P root)) room n (sym (taken _ _ t) ∙ e) in
+      record { tree = t; length-is = f .0; few = f .1; inside = f .2 })
+      (λ t. let d : NoTree ≡ Length n = sym (left _ _ t) ∙ e in let z : _≡_ {A = ℕ} 0 1 = cc in absurd (omega arith))
+
+  -- the first bytes of the buffer then are the text
+  pub front : (old : List ℕ) → writingOf P count root room ≡ Length n → take n (leftBy (Length n) (bracketed (treeOf P root)) old) ≡ bracketed (treeOf P root)
+  front old e = take-at (bracketed (treeOf P root)) (drop n old) n (sym (written e .length-is))
