@@ -1,0 +1,8 @@
+pub mod Decimal
+pub mod Laid
+pub mod Signs
+pub mod Nodes
+pub mod Texts
+pub mod Writings
+pub mod Unique
+pub mod Cases

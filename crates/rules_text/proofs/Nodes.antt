@@ -1,0 +1,218 @@
+-- What the operator at a place of a pool is, by its code: the operands of its tree, and what is written before the last of them.
+use Prim.Native.Nat.{ℕ, _-_, _*_, _+_, _<_, _≤_, _%_, _/_}
+use mathlib.Core.Path.{_≡_, refl, sym, ap, _∙_}
+use mathlib.Core.Bool.{Bool, true, false, _||_}
+use mathlib.Core.List.{List, [], _∷_, _++_, append-assoc}
+use native.Mathlib.Omega.{arith}
+use lib.Dec.{eqb, leb, ltb}
+use borrow.Author.Tests.{lt-ltb, le-ltb, ne-eqb, ltb-true, ltb-false, leb-true, leb-false, eqb-true, eqb-false}
+use Rattle.text.proofs.Tests.{by-test, never}
+use Rattle.rules.specs.Tree.{Tree, var, int, nay, bin, cond, Op, rem}
+use Rattle.rules.specs.Operator.{opOf, Named}
+use Rattle.rules.specs.Pool.{Pool, code, field, value, leaf, one, two, treeOf}
+use Rattle.rules.specs.Sound.{Sound}
+use Rattle.rules.proofs.Trees.{known-in, op-low, op-high, before-in, first-in, second-in, down, tree-leaf, tree-one, tree-two, tree-three, leaf-op, leaf-rest, one-op, two-op}
+use Rattle.rules_text.specs.declared.Part.{Part}
+use Rattle.rules_text.specs.declared.Part.the-variants.{N, Number, Rest, Node}
+use Rattle.rules_text.specs.Bracketed.{bracketed}
+use Rattle.rules_text.specs.Private.{signBy, firstOf, secondOf, lastOf, leadOf, ternary, partTree, Held, depth, Operand}
+
+-- a binary operator
+record Binary (P : Pool) (p : ℕ) (s t : Tree) : Type 0 where
+  named : Named (code P p % 16)
+  is : treeOf P p ≡ bin (named .op) s t
+
+-- its text is in brackets
+abbrev Whole : Tree → Type 0
+Whole t = bracketed t ≡ 40 ∷ (leadOf t ++ bracketed (lastOf t)) ++ 41 ∷ []
+
+not-whole : (t : Tree) → Whole (nay t)
+unfolding bracketed
+not-whole t = refl
+
+two-whole : (o : Op) (s t : Tree) → Whole (bin o s t)
+unfolding bracketed
+two-whole o s t = refl
+
+three-whole : (s t u : Tree) → Whole (cond s t u)
+unfolding bracketed
+three-whole s t u = ap (λ (l : List ℕ). 40 ∷ l ++ 41 ∷ []) (sym (append-assoc (bracketed s ++ 63 ∷ bracketed t) (58 ∷ []) (bracketed u)))
+
+-- what is written before the last operand of a binary operator, and of ?:
+pub record Signed (P : Pool) (p : ℕ) : Type 0 where
+  pub named : Named (code P p % 16)
+  pub is : leadOf (treeOf P p) ≡ bracketed (firstOf (treeOf P p)) ++ signBy (opOf (code P p % 16))
+  whole : Whole (treeOf P p)
+
+signed : {P : Pool} {p : ℕ} {s t : Tree} → Binary P p s t → Signed P p
+signed {s = s} {t = t} w = record { named = w .named; is = rw (w .is, w .named .is); whole = rw (w .is) (two-whole (w .named .op) s t) }
+
+pub record Asked (P : Pool) (p : ℕ) : Type 0 where
+  pub is : leadOf (treeOf P p) ≡ bracketed (firstOf (treeOf P p)) ++ 63 ∷ bracketed (secondOf (treeOf P p)) ++ 58 ∷ []
+  whole : Whole (treeOf P p)
+
+asked : {P : Pool} {p : ℕ} {s t u : Tree} → treeOf P p ≡ cond s t u → Asked P p
+asked {s = s} {t = t} {u = u} e = record { is = rw e; whole = rw e (three-whole s t u) }
+
+-- no code of ?:
+not-three : {c : ℕ} → ternary c ≡ false → c ≡ 49 → ⊥
+not-three e h = never (sym (rw h at e))
+
+two-low : (c : ℕ) → ternary c ≡ false → c < 96
+two-low c e = go (eqb c 49) (leb 96 c) refl e
+  where
+    go : (a b : Bool) → leb 96 c ≡ b → (a || b) ≡ false → c < 96
+    go true b f d = absurd (never (sym d))
+    go false b f d = leb-false 96 c (f ∙ d)
+
+module _ {P : Pool} {p : ℕ} (s : Sound P p) where
+  n-op : 15 < code P p → code P p < 32 → Binary P p var (int (value P p))
+  n-op h l =
+      let k : Named (code P p % 16) = op-low s h (omega arith) in
+      record { named = k; is = tree-leaf P p (omega arith) ∙ leaf-op (code P p) (field P p 0) (value P p) (k .is) h l }
+
+  rest-op : 31 < code P p → code P p < 48 → Binary P p (bin rem var (int (field P p 0))) (int (value P p))
+  rest-op h l =
+      let k : Named (code P p % 16) = op-low s (omega arith) l in
+      record { named = k; is = tree-leaf P p l ∙ leaf-rest (code P p) (field P p 0) (value P p) (k .is) h }
+
+  value-op : 63 < code P p → code P p < 80 → Binary P p (treeOf P (p - 1)) (int (value P p))
+  value-op h l =
+      let k : Named (code P p % 16) = op-high s h (omega arith) in
+      record {
+        named = k;
+        is = tree-one P p (omega arith) l (before-in s (omega arith))
+            ∙ one-op (code P p) (field P p 0) (value P p) (treeOf P (p - 1)) (treeOf P (p - 1)) (k .is) h;
+      }
+
+  op : 79 < code P p → code P p < 96 → Binary P p (treeOf P (field P p 0)) (treeOf P (p - 1))
+  op h l =
+      let k : Named (code P p % 16) = op-high s (omega arith) l in
+      record {
+        named = k;
+        is = tree-two P p h (omega arith) (before-in s (omega arith)) (first-in s h)
+            ∙ two-op (code P p) 0 (value P p) (treeOf P (field P p 0)) (treeOf P (p - 1)) (k .is) l;
+      }
+
+  pub negation : code P p ≡ 48 → treeOf P p ≡ nay (treeOf P (p - 1))
+  negation e = tree-one P p (omega arith) (omega arith) (before-in s (omega arith)) ∙ rw e
+
+  pick : 48 < code P p → code P p < 64 → treeOf P p ≡ cond (treeOf P (p - 1)) (int (value P p)) (int (field P p 0))
+  pick h l =
+      tree-one P p (omega arith) (omega arith) (before-in s (omega arith))
+      ∙ rw (one, ne-eqb (code P p) 48 (omega arith), lt-ltb (code P p) 64 l)
+
+  choice : 95 < code P p → code P p < 112 → treeOf P p ≡ cond (treeOf P (field P p 0)) (int (value P p)) (treeOf P (p - 1))
+  choice h l =
+      tree-two P p (omega arith) l (before-in s (omega arith)) (first-in s (omega arith)) ∙ rw (two, le-ltb (code P p) 96 h)
+
+  three : 111 < code P p → treeOf P p ≡ cond (treeOf P (field P p 0)) (treeOf P (field P p 1)) (treeOf P (p - 1))
+  three h = tree-three P p h (before-in s (omega arith)) (first-in s (omega arith)) (second-in s h)
+
+  -- 49 is the only code between ! and the next group
+  only-pick : 48 < code P p → code P p < 64 → code P p ≡ 49
+  only-pick h l =
+      let g : code P p / 16 ≡ 3 = omega arith in
+      let r : code P p % 16 < 2 = ltb-true (code P p % 16) 2 (rw g at (known-in s)) in
+      omega arith
+
+  -- a node as operand
+  node-part : {t : Tree} {q x : ℕ} → t ≡ treeOf P x → x < p → q ≡ x → Operand P p t (Node q)
+  node-part {t} {q} {x} e h d = record { is = ap (treeOf P) d ∙ sym e; held = down s refl h d .1; under = omega arith }
+
+  number-part : {t : Tree} {v w : ℕ} → t ≡ int v → w ≡ v → Operand P p t (Number w)
+  number-part e d = record { is = ap int d ∙ sym e; held = tt; under = omega arith }
+
+  pub first-n : 15 < code P p → code P p < 32 → Operand P p (firstOf (treeOf P p)) N
+  first-n h l = record { is = sym (ap firstOf (n-op h l .is)); held = tt; under = omega arith }
+
+  pub first-rest : {m : ℕ} → 31 < code P p → code P p < 48 → m ≡ field P p 0 → Operand P p (firstOf (treeOf P p)) (Rest m)
+  first-rest h l e =
+      record { is = ap (λ (i : ℕ). bin rem var (int i)) e ∙ sym (ap firstOf (rest-op h l .is)); held = tt; under = omega arith }
+
+  pub first-before : 48 < code P p → code P p < 80 → Operand P p (firstOf (treeOf P p)) (Node (p - 1))
+  first-before h l = node-part is (before-in s (omega arith)) refl
+    where
+      is : firstOf (treeOf P p) ≡ treeOf P (p - 1)
+      is = by-test _ (ltb (code P p) 64) (λ e. ap firstOf (pick h (ltb-true _ 64 e))) (λ e. ap firstOf (value-op (ltb-false _ 64 e) l .is))
+
+  pub first-field : {q : ℕ} → 79 < code P p → q ≡ field P p 0 → Operand P p (firstOf (treeOf P p)) (Node q)
+  first-field h = node-part is (first-in s h)
+    where
+      is : firstOf (treeOf P p) ≡ treeOf P (field P p 0)
+      is = by-test _ (ltb (code P p) 96) (λ e. ap firstOf (op h (ltb-true _ 96 e) .is)) (λ e.
+          by-test _ (ltb (code P p) 112) (λ f. ap firstOf (choice (ltb-false _ 96 e) (ltb-true _ 112 f))) (λ f. ap firstOf (three (ltb-false _ 112 f))))
+
+  -- ?: at 49 and from 96 on
+  either-three : {A : Type 0} → ternary (code P p) ≡ true → (code P p ≡ 49 → A) → (95 < code P p → A) → A
+  either-three {A} e f g = by-test A (eqb (code P p) 49) (λ h. f (eqb-true _ 49 h)) (λ h. g (leb-true 96 (code P p) (rw h at e)))
+
+  pub second-value : ternary (code P p) ≡ true → code P p < 112 → Operand P p (secondOf (treeOf P p)) (Number (value P p))
+  second-value e l =
+      number-part (either-three e (λ h. ap secondOf (pick (omega arith) (omega arith))) (λ h. ap secondOf (choice h l))) refl
+
+  pub second-field : {q : ℕ} → 111 < code P p → q ≡ field P p 1 → Operand P p (secondOf (treeOf P p)) (Node q)
+  second-field h = node-part (ap secondOf (three h)) (second-in s h)
+
+  pub last-before : 79 < code P p → Operand P p (lastOf (treeOf P p)) (Node (p - 1))
+  last-before h = node-part is (before-in s (omega arith)) refl
+    where
+      is : lastOf (treeOf P p) ≡ treeOf P (p - 1)
+      is = by-test _ (ltb (code P p) 96) (λ e. ap lastOf (op h (ltb-true _ 96 e) .is)) (λ e.
+          by-test _ (ltb (code P p) 112) (λ f. ap lastOf (choice (ltb-false _ 96 e) (ltb-true _ 112 f))) (λ f. ap lastOf (three (ltb-false _ 112 f))))
+
+  pub last-not : code P p ≡ 48 → Operand P p (lastOf (treeOf P p)) (Node (p - 1))
+  last-not h = node-part (ap lastOf (negation h)) (before-in s (omega arith)) refl
+
+  pub last-pick : {m : ℕ} → code P p ≡ 49 → m ≡ field P p 0 → Operand P p (lastOf (treeOf P p)) (Number m)
+  last-pick h = number-part (ap lastOf (pick (omega arith) (omega arith)))
+
+  -- a code above those of the leaves is an operator's
+  pub operator : 1 < code P p → 15 < code P p
+  operator h =
+      by-test _ (ltb 15 (code P p)) (ltb-true 15 (code P p)) (λ e.
+      let l : code P p < 16 = omega (arith, ltb-false 15 (code P p) e) in
+      let g : code P p / 16 ≡ 0 = omega arith in
+      let r : code P p % 16 < 2 = ltb-true (code P p % 16) 2 (rw g at (known-in s)) in
+      absurd (omega arith))
+
+  pub last-value : 1 < code P p → code P p < 80 → (code P p ≡ 48 → ⊥) → (code P p ≡ 49 → ⊥) → Operand P p (lastOf (treeOf P p)) (Number (value P p))
+  last-value h l f g = number-part is refl
+    where
+      is : lastOf (treeOf P p) ≡ int (value P p)
+      is = by-test _ (ltb (code P p) 32) (λ e. ap lastOf (n-op (operator h) (ltb-true _ 32 e) .is)) (λ e.
+          by-test _ (ltb (code P p) 48) (λ d. ap lastOf (rest-op (ltb-false _ 32 e) (ltb-true _ 48 d) .is)) (λ d.
+          by-test _ (ltb (code P p) 64)
+          (λ b. absurd (g (only-pick (omega (arith, ltb-false (code P p) 48 d)) (ltb-true _ 64 b))))
+          (λ b. ap lastOf (value-op (ltb-false _ 64 b) l .is))))
+
+  -- what stands before the last operand
+  pub lead-not : code P p ≡ 48 → leadOf (treeOf P p) ≡ 33 ∷ []
+  lead-not h = ap leadOf (negation h)
+
+  pub lead-three : ternary (code P p) ≡ true → Asked P p
+  lead-three e =
+      either-three e (λ h. asked (pick (omega arith) (omega arith))) (λ h.
+      by-test _ (ltb (code P p) 112) (λ f. asked (choice h (ltb-true _ 112 f))) (λ f. asked (three (ltb-false _ 112 f))))
+
+  pub lead-sign : 15 < code P p → (code P p ≡ 48 → ⊥) → ternary (code P p) ≡ false → Signed P p
+  lead-sign h f e =
+      by-test _ (ltb (code P p) 32) (λ d. signed (n-op h (ltb-true _ 32 d))) (λ d.
+      by-test _ (ltb (code P p) 48) (λ c. signed (rest-op (ltb-false _ 32 d) (ltb-true _ 48 c))) (λ c.
+      by-test _ (ltb (code P p) 64)
+      (λ b. absurd (not-three e (only-pick (omega (arith, ltb-false (code P p) 48 c)) (ltb-true _ 64 b))))
+      (λ b.
+      by-test _ (ltb (code P p) 80) (λ a. signed (value-op (ltb-false _ 64 b) (ltb-true _ 80 a))) (λ a.
+      signed (op (ltb-false _ 80 a) (two-low (code P p) e))))))
+
+  pub in-brackets : 1 < code P p → Whole (treeOf P p)
+  in-brackets h =
+      by-test _ (eqb (code P p) 48) (λ e. rw (negation (eqb-true _ 48 e)) (not-whole (treeOf P (p - 1)))) (λ e.
+      by-test _ (ternary (code P p)) (λ d. lead-three d .whole) (λ d. lead-sign (operator h) (eqb-false _ 48 e) d .whole))
+
+pub over : {c : ℕ} → 47 < c → (c ≡ 48 → ⊥) → 48 < c
+over h d = omega arith
+
+-- a code that is not n's and not an integer's
+pub above : {c : ℕ} → (c ≡ 0 → ⊥) → (c ≡ 1 → ⊥) → 1 < c
+above h d = omega arith

@@ -1,0 +1,3 @@
+pub mod Bracketed
+pub mod Writing
+pub mod Private
