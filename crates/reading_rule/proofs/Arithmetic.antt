@@ -2,8 +2,8 @@
 use Prim.Native.Nat.{ℕ}
 use mathlib.Core.Path.{_≡_, refl}
 use mathlib.Core.List.{List, [], _∷_, map}
-use Rattle.text.specs.Bytes.{bytes, all}
-use Rattle.text_trim.specs.Trim.{trim, trimStart, trimEnd}
+use Rattle.text.specs.Bytes.{bytes, all, begins}
+use Rattle.text_trim.specs.Trim.{whiteSpace, trim, trimStart, trimEnd, edgeAfter, lead, encode}
 use Rattle.refusal.specs.Numbers.{numberOf}
 use Rattle.refusal.specs.declared.Error.the-variants as error
 use Rattle.rules.specs.declared.Value.{Value}
@@ -50,7 +50,7 @@ values =
     ∷ []
 
 pub values-hold : map (λ (r : List ℕ × ℕ × Answer). answer (parsed Standard (r .0)) (r .1)) values ≡ map (λ (r : List ℕ × ℕ × Answer). r .2) values
-unfolding parsed tested made trim trimStart trimEnd all standard evalTree binary calculated negated chosen truthV
+unfolding parsed tested made trim trimStart trimEnd edgeAfter lead encode begins all standard evalTree binary calculated negated chosen truthV
 values-hold = refl
 
 abbrev rangeOf : Parse → Rating
@@ -78,5 +78,5 @@ ranges =
     ∷ []
 
 pub ranges-hold : map (λ (r : List ℕ × Rating). rangeOf (parsed Standard (r .0))) ranges ≡ map (λ (r : List ℕ × Rating). r .1) ranges
-unfolding parsed tested made trim trimStart trimEnd all standard rateTree kept opRange binRange condRange notRange
+unfolding parsed tested made trim trimStart trimEnd edgeAfter lead encode begins all standard rateTree kept opRange binRange condRange notRange
 ranges-hold = refl

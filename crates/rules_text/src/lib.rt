@@ -199,10 +199,24 @@ fn put_lead<'a>(
     if code == node::NOT {
         return put_byte(out, at, b'!');
     }
-    let sign = put_part(codes, places, values, first(codes, places, values, p), out, at);
+    let sign = put_part(
+        codes,
+        places,
+        values,
+        first(codes, places, values, p),
+        out,
+        at,
+    );
     if is_ternary(code) {
         let yes = put_byte(out, sign, b'?');
-        let colon = put_part(codes, places, values, second(codes, places, values, p), out, yes);
+        let colon = put_part(
+            codes,
+            places,
+            values,
+            second(codes, places, values, p),
+            out,
+            yes,
+        );
         return put_byte(out, colon, b':');
     }
     put_sign(out, sign, code % 16)
@@ -229,7 +243,14 @@ fn put_node<'a>(
     }
     let lead = put_byte(out, at, b'(');
     let end = put_lead(codes, places, values, p, out, lead);
-    let close = put_part(codes, places, values, last(codes, places, values, p), out, end);
+    let close = put_part(
+        codes,
+        places,
+        values,
+        last(codes, places, values, p),
+        out,
+        end,
+    );
     put_byte(out, close, b')')
 }
 
