@@ -1,10 +1,7 @@
 -- Document 02, n: "Both readings of that text give this very tree." Assumes nothing.
 use Prim.Native.Nat.{_≤_}
 use mathlib.Core.Path.{_≡_, ap, _∙_}
-use mathlib.Core.Bool.{true, false}
-use native.Mathlib.Omega.{arith}
 use lib.ListN.{length}
-use lib.Dec.{ltb}
 use borrow.Author.Tests.{le-ltb}
 use Rattle.text.proofs.Tests.{taken, left}
 use Rattle.rules.specs.Tree.{Tree, tree}

@@ -6,7 +6,7 @@ use mathlib.Core.List.{List, [], _∷_, _++_}
 use native.Mathlib.Omega.{arith}
 use native.Mathlib.Nat.{zero-add}
 use lib.ListN.{length, take, drop}
-use lib.Seq.{sets, sets-eq, length-sets, paste, take-length, take-at}
+use lib.Seq.{sets, sets-eq, length-sets, length-take-le, paste, take-length, take-at}
 use lib.Dec.{leb}
 use borrow.Author.Tests.{le-leb, lt-leb, leb-true, leb-false}
 use Rattle.text.proofs.Tests.{taken, left, by-test, and-none}
@@ -31,17 +31,17 @@ module _ {s old new : List ℕ} {n : ℕ} (w : Puts s 0 old new n) where
       (λ e. let z : n ≡ 0 + length s = w .end ∙ taken _ _ e in let l = leb-true (0 + length s) 512 e in absurd (omega arith))
       (λ e. let l = leb-false (0 + length s) 512 e in omega arith)
 
-  pub long : length old ≡ 512 → n ≤ 512 → n ≤ length new
-  long k h = omega (arith, whole-text h, ap length (w .text (omega (arith, whole-text h))), length-sets old 0 s)
+  pub long : length old ≡ 512 → n ≤ 512 → length new ≡ 512
+  long k h = ap length (w .text (omega (arith, whole-text h))) ∙ (length-sets old 0 s ∙ k)
+
+  pub prefix : length old ≡ 512 → n ≤ 512 → length (take n new) ≡ n
+  prefix k h = length-take-le n new (omega (arith, long k h))
 
   pub text-is : length old ≡ 512 → n ≤ 512 → take n new ≡ s
   text-is k h =
       let e : n ≡ length s = whole-text h in
       let d : new ≡ s ++ drop (0 + length s) old = w .text (omega arith) ∙ sets-eq s old 0 (omega arith) in
       ap (λ (l : List ℕ). take n l) d ∙ take-at s (drop (0 + length s) old) n (sym e)
-
-  pub counted : length old ≡ 512 → n ≤ 512 → n ≡ length (take n new)
-  counted k h = whole-text h ∙ sym (ap length (text-is k h))
 
   pub too-long : (room : ℕ) → 512 < n → TooLong ≡ fitted s room
   too-long room h =

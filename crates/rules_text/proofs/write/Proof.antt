@@ -1,13 +1,14 @@
 -- `rules_text::write` meets its contract: the tree test comes first, then the walk puts the text into an array of its own, and what is
 -- whole there and has room in the buffer is copied.
-use mathlib.Core.Path.{refl, _∙_}
+use mathlib.Core.Path.{refl, sym, _∙_}
 use native.Mathlib.Omega.{arith}
 use lib.ListN.{length}
+use lib.Seq.{length-take-le}
 use denote.Ref.{now}
 use borrow.Author.Tests.{not-true, not-false}
 use Rattle.rules.specs.Pool.{Pool, pool}
 use Rattle.rules.proofs.Trees.{sound, told}
-use Rattle.rules_text.proofs.Writings.{too-long, no-room, fits, no-tree, a-tree, long, counted, text-is, pasted}
+use Rattle.rules_text.proofs.Writings.{too-long, no-room, fits, no-tree, a-tree, long, prefix, text-is, pasted}
 use borrow.Author.Needs.{needs}
 use Rattle.rules_text.proofs.write.Statement.{statement}
 use Rattle.rules_text.proofs.write.Tie as tie
@@ -36,13 +37,13 @@ returns-3 : tie.Need-returns-3
 returns-3 c = let s : tie.Start = c .before .before .before .before .before .before .before in (a-tree (P s) (s .args .count) (s .args .root) (length (now (s .args .buffer))) (told (P s) (s .args .count) (s .args .root) (c .before .before .before .before .before .is-tree .ensures) (not-false _ (c .before .before .before .before .if1 .left))) (no-room (c .before .before .put-node .ensures) _ (c .before .if2 .left) (c .if3 .taken)), refl)
 
 array-share-prefix-text : tie.Need-array-share-prefix-text
-array-share-prefix-text c = long (c .before .before .put-node .ensures) refl (c .before .if2 .left)
+array-share-prefix-text c = omega (arith, long (c .before .before .put-node .ensures) refl (c .before .if2 .left), c .before .if2 .left)
 
 slice-aggregate-copy : tie.Need-slice-aggregate-copy
-slice-aggregate-copy c = counted (c .before .before .before .put-node .ensures) refl (c .before .before .if2 .left)
+slice-aggregate-copy c = sym (length-take-le _ _ (omega (arith, long (c .before .before .before .put-node .ensures) refl (c .before .before .if2 .left), c .before .before .if2 .left)))
 
 copy-requires : tie.Need-copy-requires
-copy-requires c κs = let s : tie.Start = c .before .before .before .before .before .before .before .before .before in omega (arith, counted (c .before .before .before .before .put-node .ensures) refl (c .before .before .before .if2 .left), c .before .before .if3 .left)
+copy-requires c κs = let s : tie.Start = c .before .before .before .before .before .before .before .before .before in omega (arith, prefix (c .before .before .before .before .put-node .ensures) refl (c .before .before .before .if2 .left), c .before .before .if3 .left)
 
 same-length : tie.Need-same-length
 same-length c = search needs
