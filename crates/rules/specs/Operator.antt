@@ -4,7 +4,7 @@ use Prim.Native.Nat.{ℕ, zero, suc}
 use mathlib.Core.Path.{_≡_}
 use mathlib.Core.List.{List, [], _∷_}
 use mathlib.Core.Option.{Option, none, some}
-use Rattle.rules.specs.Tree.{Op, cmp, and, or, rem, Cmp, eq, ne, ge, le, gt, lt}
+use Rattle.rules.specs.Tree.{Op, cmp, and, or, rem, eq, ne, ge, le, gt, lt}
 
 abbrev pub operators : List Op
 operators = cmp eq ∷ cmp ne ∷ cmp ge ∷ cmp le ∷ cmp gt ∷ cmp lt ∷ and ∷ or ∷ rem ∷ []

@@ -1,5 +1,5 @@
 -- The answers of a rating at a place of a pool, by its code and its operands' ranges.
-use mathlib.Core.Path.{_≡_, refl, sym, ap, _∙_}
+use mathlib.Core.Path.{_≡_, refl}
 use mathlib.Core.Option.{some}
 use Prim.Native.Nat.{ℕ, _-_, _<_, _%_}
 use native.Mathlib.Omega.{arith}
@@ -8,7 +8,7 @@ use Rattle.rules.specs.declared.Rating.{Rating}
 use Rattle.rules.specs.declared.Rating.the-variants.{Range}
 use Rattle.rules.specs.Tree.{Op, cmp, and, or, rem}
 use Rattle.rules.specs.Operator.{opOf, opAt, opCode, Named}
-use Rattle.rules.specs.Range.{rateTree, opRange, notRange, binRange, condRange}
+use Rattle.rules.specs.Range.{rateTree, opRange, notRange, condRange}
 use Rattle.rules.specs.Pool.{Pool, code, field, value, leaf, one, two, treeOf}
 use Rattle.rules.specs.Sound.{Sound}
 use Rattle.rules.proofs.Operators.{code-is}

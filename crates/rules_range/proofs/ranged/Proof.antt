@@ -1,6 +1,5 @@
 -- `rules_range::ranged` meets its contract: below %'s number every operator yields a truth, and from it on the operator is %.
 use mathlib.Core.Path.{sym}
-use native.Mathlib.Omega.{arith}
 use borrow.Author.Tests.{eq-eqb, ne-eqb}
 use Rattle.rules.specs.Range.{opRange}
 use Rattle.rules.proofs.Operators.{is-rem}
@@ -8,10 +7,6 @@ use Rattle.rules_range.proofs.Ranges.{truths}
 use borrow.Author.Needs.{needs}
 use Rattle.rules_range.proofs.ranged.Statement.{statement}
 use Rattle.rules_range.proofs.ranged.Tie as tie
-use Rattle.rules_range.proofs.ranged.Reads as reads
-use Rattle.rules_range.proofs.ranged.Lts as lts
-use Rattle.rules_range.proofs.least.Reads as least-reads
-use Rattle.rules_range.proofs.less.Reads as less-reads
 
 returns : tie.Need-returns
 returns c = record { is = λ op e. sym (truths _ op _ _ _ _ e (c .if1 .taken)) }
