@@ -1,8 +1,8 @@
 -- A packed tree is unpacked to the tree itself, its codes are known and those of their operands, and it has no more nodes than the tree.
-use mathlib.Core.Path.{_≡_, refl, ap}
+use mathlib.Core.Path.{_≡_, refl, ap, _∙_}
 use mathlib.Core.Bool.{Bool, true, false, _&&_}
 use mathlib.Core.Option.{some}
-use Prim.Native.Nat.{ℕ, _+_, _-_, _<_, _≤_, _%_}
+use Prim.Native.Nat.{ℕ, _+_, _-_, _<_, _≤_, _%_, _/_}
 use native.Mathlib.Omega.{arith}
 use lib.Dec.{ltb}
 use Rattle.rules.specs.Tree.{Tree, var, int, nay, bin, cond, Op, cmp, and, or, rem, div, calc}

@@ -8,12 +8,12 @@ use mathlib.Core.Option.{some}
 use Prim.Native.Nat.{ℕ, zero, suc, _+_, _-_, _*_, _<_, _≤_, _%_, _/_}
 use native.Mathlib.Omega.{arith}
 use native.Mathlib.Nat.{eq-or-lt-of-le, le-of-suc-le-suc}
-use lib.ListN.{getD}
+use lib.ListN.{getD, length}
 use lib.Dec.{ltb, leb}
 use borrow.Author.Tests.{lt-ltb, le-ltb, ltb-true, ltb-false, leb-true, eq-eqb, ne-eqb}
-use Rattle.rules.specs.Tree.{Tree, var, int, bin, cond, rem, Op}
+use Rattle.rules.specs.Tree.{Tree, var, int, nay, bin, cond, rem, Op}
 use Rattle.rules.specs.Operator.{operators, opOf, Named}
-use Rattle.rules.specs.Pool.{Pool, pool, code, field, value, rows, known, leaf, one, two, node, build, below, treeAt, treeOf, fields, operandsTo, operands, allBelow, used, member, shaped, isTree}
+use Rattle.rules.specs.Pool.{Pool, pool, code, field, value, rows, known, joined, leaf, one, two, node, build, below, treeAt, treeOf, fields, operandsTo, operands, allBelow, used, member, shaped, isTree}
 use Rattle.rules.specs.Sound.{Sound}
 use Rattle.rules.proofs.Operators.{never, named}
 

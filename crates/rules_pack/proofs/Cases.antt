@@ -1,8 +1,8 @@
 -- Rules and what they are packed to, computed from the definition: codes, fields and values of the nodes. Assumes nothing.
-use Prim.Native.Nat.{ℕ}
+use Prim.Native.Nat.{ℕ, zero, suc}
 use mathlib.Core.Path.{_≡_, refl}
 use mathlib.Core.List.{List, [], _∷_, map}
-use Rattle.rules.specs.Tree.{Tree, var, int, nay, bin, cond, cmp, and, rem, eq, ne}
+use Rattle.rules.specs.Tree.{Tree, var, int, nay, bin, cond, cmp, and, or, rem, eq, ne, ge, le}
 use Rattle.rules.specs.Operator.{opCode}
 use Rattle.rules.specs.Pack.{Packed, leaf, one, two, three, numberOf, isCount, isRem, leftOf, pack}
 

@@ -1,7 +1,8 @@
 -- Packing place by place: what the nodes that a reader left say of the tree, what is packed then, and how much room it takes.
 use mathlib.Core.Path.{_≡_, refl, sym, ap, _∙_}
-use mathlib.Core.Bool.{Bool, true, false}
-use Prim.Native.Nat.{ℕ, _+_, _-_, _<_, _%_, _/_}
+use mathlib.Core.Bool.{Bool, true, false, _||_}
+use mathlib.Core.Option.{some}
+use Prim.Native.Nat.{ℕ, _+_, _-_, _<_, _≤_, _%_, _/_}
 use native.Mathlib.Omega.{arith}
 use lib.ListN.{replicate}
 use lib.Dec.{eqb, leb, ltb}
@@ -16,9 +17,9 @@ use Rattle.rules.specs.declared.Small.{Small}
 use Rattle.rules.specs.declared.Small.the-variants as small
 use Rattle.rules.specs.declared.Left.{Left}
 use Rattle.rules.specs.declared.Left.the-variants as left
-use Rattle.rules.specs.Store.{push}
+use Rattle.rules.specs.Store.{push, blank}
 use Rattle.rules.specs.Pack.{Packed, leaf, one, two, three, numberOf, smallBy, isCount, isRem, restBy, leftOf, packBin, packCond, pack, nodes, keep, packedSize, packed}
-use Rattle.rules.proofs.Operators.{code-is}
+use Rattle.rules.proofs.Operators.{never, code-is}
 use Rattle.rules.proofs.Trees.{before-in, first-in, second-in, op-high, down, tree-leaf, tree-one, tree-two, tree-three, two-op}
 use Rattle.rules.proofs.Stored.{packed-pos, blank-is}
 use Rattle.rules_pack.specs.Private.{Packs, numberAt}

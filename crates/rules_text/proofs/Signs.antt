@@ -7,7 +7,7 @@ use lib.ListN.{getD}
 use lib.Dec.{eqb}
 use borrow.Author.Tests.{eq-eqb, ne-eqb}
 use Rattle.text.proofs.Tests.{taken, left}
-use Rattle.rules.specs.Tree.{Op, cmp, and, or, rem, eq, ne, ge, le, gt, lt}
+use Rattle.rules.specs.Tree.{Op, cmp, and, or, rem, eq, ne, ge, le, gt, lt, calc, div, plus, minus, times}
 use Rattle.rules.specs.Operator.{opOf, opCode, Named}
 use Rattle.rules.proofs.Operators.{code-is}
 use Rattle.rules_text.specs.Bracketed.{signOf}
@@ -15,10 +15,10 @@ use Rattle.rules_text.specs.Private.{signBy, Puts}
 use Rattle.rules_text.proofs.Laid.{reworded, joined}
 
 abbrev firsts : List ℕ
-firsts = 61 ∷ 33 ∷ 62 ∷ 60 ∷ 62 ∷ 60 ∷ 38 ∷ 124 ∷ 37 ∷ []
+firsts = 61 ∷ 33 ∷ 62 ∷ 60 ∷ 62 ∷ 60 ∷ 38 ∷ 124 ∷ 37 ∷ 47 ∷ 43 ∷ 45 ∷ 42 ∷ []
 
 abbrev seconds : List ℕ
-seconds = 61 ∷ 61 ∷ 61 ∷ 61 ∷ 0 ∷ 0 ∷ 38 ∷ 124 ∷ 0 ∷ []
+seconds = 61 ∷ 61 ∷ 61 ∷ 61 ∷ 0 ∷ 0 ∷ 38 ∷ 124 ∷ 0 ∷ 0 ∷ 0 ∷ 0 ∷ 0 ∷ []
 
 -- a row of the table
 abbrev bytes : ℕ → List ℕ
@@ -35,6 +35,10 @@ row (cmp lt) = refl
 row and = refl
 row or = refl
 row rem = refl
+row div = refl
+row (calc plus) = refl
+row (calc minus) = refl
+row (calc times) = refl
 
 module _ {i : ℕ} (k : Named i) where
   sign-is : signBy (opOf i) ≡ bytes i

@@ -37,9 +37,23 @@ enum Part {
 }
 
 // The bytes of each operator by its number; one byte and 0 if it has one only.
-const FIRST: [u8; 9] = [b'=', b'!', b'>', b'<', b'>', b'<', b'&', b'|', b'%'];
+const FIRST: [u8; 13] = [
+    b'=',
+    b'!',
+    b'>',
+    b'<',
+    b'>',
+    b'<',
+    b'&',
+    b'|',
+    b'%',
+    b'/',
+    b'+',
+    b'-',
+    b'*',
+];
 
-const SECOND: [u8; 9] = [b'=', b'=', b'=', b'=', 0, 0, b'&', b'|', 0];
+const SECOND: [u8; 13] = [b'=', b'=', b'=', b'=', 0, 0, b'&', b'|', 0, 0, 0, 0, 0];
 
 // Puts a byte, and tells the place after it. A text that does not fit ends at 513, wherever it began.
 fn put_byte(out: &mut [u8; 512], at: usize, b: u8) -> usize

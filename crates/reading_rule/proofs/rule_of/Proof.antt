@@ -4,6 +4,11 @@ use Rattle.reading_rule.proofs.Steps.{answered, parses, none-made, foun
 use borrow.Author.Needs.{needs}
 use Rattle.reading_rule.proofs.rule_of.Statement.{statement}
 use Rattle.reading_rule.proofs.rule_of.Tie as tie
+use Rattle.reading_rule.proofs.rule_of.Reads as reads
+use Rattle.reading_rule.proofs.rule_of.Lts as lts
+use Rattle.reading_rule.proofs.read.Reads as read-reads
+use Rattle.reading_rule.proofs.refuse.Reads as refuse-reads
+use Rattle.rules_pack.proofs.pack.Reads as pack-reads
 
 read-requires : tie.Need-read-requires
 read-requires c κs = search needs

@@ -4,6 +4,9 @@ use Rattle.rules.specs.Range.{binRange}
 use borrow.Author.Needs.{needs}
 use Rattle.rules_range.proofs.binary.Statement.{statement}
 use Rattle.rules_range.proofs.binary.Tie as tie
+use Rattle.rules_range.proofs.binary.Reads as reads
+use Rattle.rules_range.proofs.binary.Lts as lts
+use Rattle.rules_range.proofs.ranged.Reads as ranged-reads
 
 enum-known-left : tie.Need-enum-known-left
 enum-known-left c = search needs

@@ -2,6 +2,9 @@
 use borrow.Author.Needs.{needs}
 use Rattle.rules_tree.proofs.is_known.Statement.{statement}
 use Rattle.rules_tree.proofs.is_known.Tie as tie
+use Rattle.rules_tree.proofs.is_known.Reads as reads
+use Rattle.rules_tree.proofs.is_known.Lts as lts
+use Rattle.rules_tree.proofs.rows_of.Reads as rows-of-reads
 
 rows-of-requires : tie.Need-rows-of-requires
 rows-of-requires c κs = search needs

@@ -1,6 +1,7 @@
 -- `rules_tree::is_node` meets its contract: a known code comes first; then the place before and the operands in the fields that the code uses
 -- are taken one after the other, and each return is the answer at those that were.
 use mathlib.Core.Path.{_≡_, sym, _∙_}
+use mathlib.Core.Bool.{true}
 use mathlib.Core.List.{[]}
 use Prim.Native.Nat.{_-_}
 use lib.ListN.{length, set, length-set}
@@ -12,6 +13,10 @@ use Rattle.rules_tree.proofs.Marks.{Taken, before-taken, one-more, leaf
 use borrow.Author.Needs.{needs}
 use Rattle.rules_tree.proofs.is_node.Statement.{statement}
 use Rattle.rules_tree.proofs.is_node.Tie as tie
+use Rattle.rules_tree.proofs.is_node.Reads as reads
+use Rattle.rules_tree.proofs.is_node.Lts as lts
+use Rattle.rules_tree.proofs.is_known.Reads as is-known-reads
+use Rattle.rules_tree.proofs.takes.Reads as takes-reads
 
 abbrev P : tie.Start → Pool
 P s = pool (now (s .args .codes)) (now (s .args .places)) []

@@ -4,6 +4,8 @@ use Rattle.rules_tree.proofs.Marks.{past-groups}
 use borrow.Author.Needs.{needs}
 use Rattle.rules_tree.proofs.rows_of.Statement.{statement}
 use Rattle.rules_tree.proofs.rows_of.Tie as tie
+use Rattle.rules_tree.proofs.rows_of.Reads as reads
+use Rattle.rules_tree.proofs.rows_of.Lts as lts
 
 returns : tie.Need-returns
 returns c = search needs

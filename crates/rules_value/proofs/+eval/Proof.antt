@@ -1,6 +1,6 @@
 -- `rules_value::eval` meets its contract: the tree at a place is made of the trees at its operands' places, which lie below it, so the place
 -- is the measure, and each return is the definition of the value at the tests that led there.
-use mathlib.Core.Path.{refl}
+use mathlib.Core.Path.{refl, sym, _∙_}
 use mathlib.Core.Logic.{⊎-elim}
 use native.Mathlib.Omega.{arith}
 use denote.Ref.{now}

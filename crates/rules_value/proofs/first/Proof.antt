@@ -5,6 +5,9 @@ use Rattle.rules_value.specs.Walk.{firstAt}
 use borrow.Author.Needs.{needs}
 use Rattle.rules_value.proofs.first.Statement.{statement}
 use Rattle.rules_value.proofs.first.Tie as tie
+use Rattle.rules_value.proofs.first.Reads as reads
+use Rattle.rules_value.proofs.first.Lts as lts
+use Rattle.rules.proofs.place.Reads as place-reads
 
 sub-result : tie.Need-sub-result
 sub-result c = search needs

@@ -1,14 +1,20 @@
 -- `rules_value::leaf` meets its contract: each return is the value of the tree that the tests before it leave.
 use mathlib.Core.Path.{refl}
+use mathlib.Core.Option.{some}
+use native.Mathlib.Omega.{arith}
 use denote.Ref.{now}
 use Rattle.rules.specs.Tree.{rem}
 use Rattle.rules.specs.Operator.{opOf, opAt}
 use Rattle.rules.specs.Pool.{Pool, pool}
 use Rattle.rules.proofs.Trees.{op-low}
-use Rattle.rules_value.proofs.Values.{at-count, at-int, at-op, at-rest}
+use Rattle.rules_value.proofs.Values.{at-count, at-int, at-op, at-rest, inside}
 use borrow.Author.Needs.{needs}
 use Rattle.rules_value.proofs.leaf.Statement.{statement}
 use Rattle.rules_value.proofs.leaf.Tie as tie
+use Rattle.rules_value.proofs.leaf.Reads as reads
+use Rattle.rules_value.proofs.leaf.Lts as lts
+use Rattle.rules_operators.proofs.apply.Reads as apply-reads
+use Rattle.rules_value.proofs.small.Reads as small-reads
 
 abbrev P : tie.Start → Pool
 P s = pool (now (s .args .codes)) (now (s .args .places)) (now (s .args .values))
