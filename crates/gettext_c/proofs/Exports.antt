@@ -6,7 +6,11 @@ use lib.ListN.{length}
 use Rattle.refusal.specs.Numbers.{outcomeNumber}
 use Rattle.refusal.specs.declared.Outcome.the-variants.{Loaded}
 use Rattle.rules.specs.Tree.{defaultTree}
-use Rattle.rules.specs.Pool.{Pool}
+use Rattle.rules.specs.Pool.{Pool, treeOf}
+use Rattle.rules_text.specs.Bracketed.{bracketed}
+use Rattle.rules_text.specs.Writing.{writingOf, leftBy}
+use Rattle.rules_text.specs.declared.Writing.{Writing}
+use Rattle.host.specs.declared.Written.{Written}
 use Rattle.container.specs.Catalog.{Answer, load, treeIn}
 use Rattle.container.specs.Promise as promise
 use Rattle.container.specs.declared.Options.{Options}
@@ -16,9 +20,9 @@ use Rattle.container_layout.specs.declared.Tables.{Tables}
 use Rattle.lookup_index.specs.Index.{building, leaves, number}
 use Rattle.lookup_index.specs.declared.Building.{Building}
 use Rattle.host.specs.Host as host
-use Rattle.host.specs.Host.{headOf, loadedOf}
+use Rattle.host.specs.Host.{headOf, loadedOf, nodesIn, rootIn}
 use Rattle.host.specs.declared.Loaded as loaded
-use Rattle.gettext_c.specs.Record.{Loads, IsEmpty, Indexes}
+use Rattle.gettext_c.specs.Record.{Loads, IsEmpty, Indexes, Writes}
 
 -- a loaded rule has a node
 pub loaded-nodes : (a : Answer) {Q : Pool} {r : Loading} → promise.Loads a Q r → 0 < r .nodes
@@ -57,4 +61,13 @@ indexes s h lent {b = b} e f g k =
     record {
       number-is = g ∙ ap number z;
       slots-are = k ∙ ap (λ (x : Tables). leaves s x lent b) e ∙ ap (leaves s (host.tablesIn h) lent) z;
+    }
+
+-- writing the rule of the nodes and the root that the head says
+pub writes : (P : Pool) (h old : List ℕ) {new : List ℕ} {w : Writing} {r : Written} → w ≡ writingOf P (nodesIn h) (rootIn h) (length old)
+    → new ≡ leftBy w (bracketed (treeOf P (rootIn h))) old → r ≡ host.writtenOf w → Writes P h old new r
+writes P h old e f g =
+    record {
+      answer = g ∙ ap host.writtenOf e;
+      left = f ∙ ap (λ (x : Writing). leftBy x (bracketed (treeOf P (rootIn h))) old) e;
     }

@@ -40,6 +40,10 @@ use Rattle.gettext_c.proofs.gettext_c_ngettext_indexed.Reads as ngettex
 use Rattle.gettext_c.proofs.gettext_c_ngettext_indexed.Kinds as ngettext-indexed-kinds
 use Rattle.gettext_c.proofs.gettext_c_npgettext_indexed.Reads as npgettext-indexed
 use Rattle.gettext_c.proofs.gettext_c_npgettext_indexed.Kinds as npgettext-indexed-kinds
+use Rattle.gettext_c.proofs.gettext_c_span.Reads as span
+use Rattle.gettext_c.proofs.gettext_c_span.Kinds as span-kinds
+use Rattle.gettext_c.proofs.gettext_c_text.Reads as text
+use Rattle.gettext_c.proofs.gettext_c_text.Kinds as text-kinds
 use Rattle.gettext_c.proofs.gettext_c_index.Reads as index
 use Rattle.gettext_c.proofs.gettext_c_index.Kinds as index-kinds
 use Rattle.gettext_c.proofs.gettext_c_cost.Reads as cost
@@ -107,3 +111,15 @@ index-left κs x = now (x .1 .1 .0)
 
 pub index-one : OneLeft 2 index-kinds.ps index-kinds.r index.Post index-left
 index-one κs a u v x y p q = (p .number-is ∙ sym (q .number-is), p .slots-are ∙ sym (q .slots-are))
+
+abbrev span-left : (κs : Lfts 2) → AtExit (endedOf 2 span-kinds.ps span-kinds.r) κs → List ℕ
+span-left κs x = now (x .1 .1 .1 .1 .1 .1 .0)
+
+pub span-one : OneLeft 2 span-kinds.ps span-kinds.r span.Post span-left
+span-one κs a u v x y p q = (p .0 ∙ sym (q .0), p .1 ∙ sym (q .1))
+
+abbrev text-left : (κs : Lfts 2) → AtExit (endedOf 2 text-kinds.ps text-kinds.r) κs → List ℕ
+text-left κs x = now (x .1 .1 .1 .1 .0)
+
+pub text-one : OneLeft 2 text-kinds.ps text-kinds.r text.Post text-left
+text-one κs a u v x y p q = (p .answer ∙ sym (q .answer), p .left ∙ sym (q .left))

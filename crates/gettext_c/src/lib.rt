@@ -6,6 +6,7 @@ use host::Fits;
 use host::Form;
 use host::Loaded;
 use host::Rating;
+use host::Written;
 use host::tables_in;
 use refusal::Outcome;
 ghost use mathlib.Core.Path.{_≡_};
@@ -21,7 +22,7 @@ ghost use Rattle.lookup_slots.specs.Used.{used};
 ghost use Rattle.container.specs.Catalog.{load};
 ghost use Rattle.container_cost.specs.Cost.{cost};
 ghost use Rattle.host.specs.Host.{optionsOf, tablesIn, nodesIn, rootIn, answerOf, ownFor, ratingOf, fitsOf, valueOf};
-ghost use Rattle.gettext_c.specs.Record.{Loads, IsEmpty, Indexes, found, counted, foundIn, countedIn};
+ghost use Rattle.gettext_c.specs.Record.{Loads, IsEmpty, Indexes, found, counted, foundIn, countedIn, Writes};
 
 // The empty catalog.
 #[no_mangle]
@@ -309,6 +310,23 @@ pub extern "C" fn gettext_c_resolve<'a>(
     let nodes = head[5];
     let root = head[6];
     host::form_of(rules_value::resolve(codes, places, values, nodes, root, n))
+}
+
+// Writes the text of a record's rule, with brackets round every operator, into the buffer. What it does not need of the buffer stays.
+#[no_mangle]
+pub extern "C" fn gettext_c_text<'a>(
+    head: &'a [usize; 7],
+    codes: &'a [u8; 512],
+    places: &'a [u16; 1024],
+    values: &'a [u64; 512],
+    buffer: &mut [u8],
+) -> Written
+    ensures { λ r. ⌜ Writes (pool (now (codes .entry)) (now (places .entry)) (now (values .entry))) (now (head .entry)) (now (buffer .entry)) (now (buffer .exit)) r ⌝ }
+{
+    let nodes = head[5];
+    let root = head[6];
+    let writing = rules_text::write(codes, places, values, nodes, root, buffer);
+    host::written_of(writing)
 }
 
 // How often each form of a record's rule occurs for the counts from a to b: the figures of forms 0 to 15, of those above, and of the counts

@@ -22,6 +22,8 @@ use Rattle.host.proofs.fits_of.Reads as fits-of
 use Rattle.host.proofs.fits_of.Kinds as fits-of-kinds
 use Rattle.host.proofs.form_of.Reads as form-of
 use Rattle.host.proofs.form_of.Kinds as form-of-kinds
+use Rattle.host.proofs.written_of.Reads as written-of
+use Rattle.host.proofs.written_of.Kinds as written-of-kinds
 
 pub flag-of-one : One 0 flag-of-kinds.ps flag-of-kinds.r flag-of.Post
 flag-of-one κs a u v x y p q = p ∙ sym q
@@ -52,3 +54,6 @@ fits-of-one κs a u v x y p q = p ∙ sym q
 
 pub form-of-one : One 0 form-of-kinds.ps form-of-kinds.r form-of.Post
 form-of-one κs a u v x y p q = p ∙ sym q
+
+pub written-of-one : One 0 written-of-kinds.ps written-of-kinds.r written-of.Post
+written-of-one κs a u v x y p q = p ∙ sym q

@@ -5,7 +5,7 @@ use mathlib.Core.List.{List, [], _∷_}
 use lib.ListN.{getD}
 use lib.Dec.{eqb}
 use Rattle.refusal.specs.Numbers.{numberOf, outcomeNumber}
-use Rattle.refusal.specs.declared.Error.the-variants.{ZeroModulus, BadRecord}
+use Rattle.refusal.specs.declared.Error.the-variants.{ZeroModulus, BadRecord, RuleTooLong}
 use Rattle.rules.specs.Value.{truth}
 use Rattle.rules.specs.declared.Resolved.{Resolved}
 use Rattle.rules.specs.declared.Resolved.the-variants as resolved
@@ -26,6 +26,9 @@ use Rattle.host.specs.declared.Answer.{Answer}
 use Rattle.host.specs.declared.Rating.{Rating}
 use Rattle.host.specs.declared.Fits.{Fits}
 use Rattle.host.specs.declared.Form.{Form}
+use Rattle.host.specs.declared.Written.{Written}
+use Rattle.rules_text.specs.declared.Writing.{Writing}
+use Rattle.rules_text.specs.declared.Writing.the-variants as writing
 
 -- any number but 0 is yes
 abbrev pub isSet : ℕ → Bool
@@ -85,6 +88,11 @@ abbrev pub fitsOf : Fit → Fits
 fitsOf fit.Yes = record { number = 0; fits = 1 }
 fitsOf fit.No = record { number = 0; fits = 0 }
 fitsOf fit.NoTree = record { number = numberOf BadRecord; fits = 0 }
+
+abbrev pub writtenOf : Writing → Written
+writtenOf (writing.Length n) = record { number = 0; len = n }
+writtenOf writing.TooLong = record { number = numberOf RuleTooLong; len = 0 }
+writtenOf writing.NoTree = record { number = numberOf BadRecord; len = 0 }
 
 abbrev pub valueOf : Resolved → Form
 valueOf (resolved.Form x) = record { number = 0; form = x }

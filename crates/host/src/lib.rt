@@ -9,10 +9,11 @@ use refusal::Error;
 use rules::Fit;
 use rules::Rated;
 use rules::Resolved;
+use rules_text::Writing;
 ghost use mathlib.Core.Path.{_≡_};
 ghost use Prim.Native.Nat.{_<_, _%_};
 ghost use Rattle.rules.specs.Value.{truth};
-ghost use Rattle.host.specs.Host.{isSet, readingOf, optionsOf, headOf, tablesIn, loadedOf, ownFor, fallback, answerOf, ratingOf, fitsOf, valueOf};
+ghost use Rattle.host.specs.Host.{isSet, readingOf, optionsOf, headOf, tablesIn, loadedOf, ownFor, fallback, answerOf, ratingOf, fitsOf, valueOf, writtenOf};
 
 // How a load went: document 01's number, and the head of the record, that of the empty catalog where the number is not 0. A head is the
 // file's length, how many entries it has, where the originals' table and the translations' lie, whether (not 0) the highest byte of a word
@@ -48,6 +49,13 @@ pub struct Rating {
 pub struct Fits {
     pub number: u32,
     pub fits: u32,
+}
+
+// How long the text is that was written, beside number 0.
+#[repr(C)]
+pub struct Written {
+    pub number: u32,
+    pub len: usize,
 }
 
 // The form that a rule names for a count.
@@ -238,6 +246,22 @@ pub fn form_of(resolved: Resolved) -> Form
         Resolved::NoTree => Form {
             number: refusal::number_of(Error::BadRecord),
             form: 0,
+        },
+    }
+}
+
+pub fn written_of(writing: Writing) -> Written
+    ensures { λ r. ⌜ r ≡ writtenOf writing ⌝ }
+{
+    match writing {
+        Writing::Length(len) => Written { number: 0, len },
+        Writing::TooLong => Written {
+            number: refusal::number_of(Error::RuleTooLong),
+            len: 0,
+        },
+        Writing::NoTree => Written {
+            number: refusal::number_of(Error::BadRecord),
+            len: 0,
         },
     }
 }
