@@ -189,9 +189,11 @@ fn index(rows: &mut Vec<Row>, scratch: &Path) {
             assert_eq!(ours_apart.pgettext("menu", id(k)), other_apart.pgettext("menu", id(k)));
             assert_eq!(ours.gettext(none(k)), none(k));
         }
-        let times = 40_000;
+        // short runs, so that some fall between the other work of the machine; they go on through the keys, so that none stays in the cache
+        let times = 2000;
         let mut row = |name: &str, mine: &mut dyn FnMut(usize), theirs: &mut dyn FnMut(usize)| {
-            let each = race(15, [&mut || (0..times).for_each(&mut *mine), &mut || (0..times).for_each(&mut *theirs)]);
+            let (mut a, mut b) = (0usize.., 0usize..);
+            let each = race(400, [&mut || a.by_ref().take(times).for_each(&mut *mine), &mut || b.by_ref().take(times).for_each(&mut *theirs)]);
             let [mine, theirs] = each.map(|seconds| seconds / times as f64 * 1e9);
             rows.push(faster("index", format!("{name}, {n} entries"), "ns", mine, theirs, "crate"));
             mine

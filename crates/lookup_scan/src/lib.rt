@@ -44,7 +44,7 @@ fn key_is(key: &[u8], given: bool, context: &[u8], id: &[u8]) -> bool
     ensures { λ r. ⌜ r ≡ same (keyOf given (now (context .entry)) (now (id .entry))) (now (key .entry)) ⌝ }
 {
     if !given {
-        return text_same::equal(key, id);
+        return text::equal(key, id);
     }
     let n = context.len();
     if key.len() <= n {
@@ -53,11 +53,11 @@ fn key_is(key: &[u8], given: bool, context: &[u8], id: &[u8]) -> bool
     if key[n] != 4 {
         return false;
     }
-    if !text_same::equal(&key[..n], context) {
+    if !text::equal(&key[..n], context) {
         return false;
     }
     let after = n + 1;
-    text_same::equal(&key[after..], id)
+    text::equal(&key[after..], id)
 }
 
 // Whether entry i may have a key of n bytes: its original is long enough, and a NUL stands after so many. Most entries end here.

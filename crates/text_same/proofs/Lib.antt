@@ -1,2 +1,0 @@
-pub mod Agreed
-pub mod Unique
