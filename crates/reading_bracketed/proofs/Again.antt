@@ -1,5 +1,5 @@
--- Document 02, n: "the tool that writes the text from a loaded rule". What it writes of a record, read again in either reading, is the rule
--- of the record. Assumes nothing.
+-- Document 02, n: "the tool that writes the text from a loaded rule". What it writes of a record, read again in a reading that has the
+-- rule's operators, is the rule of the record. Assumes nothing.
 use Prim.Native.Nat.{ℕ, zero, suc, _-_, _%_, _<_, _^_}
 use mathlib.Core.Path.{_≡_, ap, _∙_}
 use mathlib.Core.Bool.{Bool, true, false}
@@ -18,6 +18,7 @@ use Rattle.rules_text.proofs.Writings.{written, front}
 use Rattle.reading_rule.specs.declared.Reading.{Reading}
 use Rattle.reading_rule.specs.Plurals.{rule, parsed}
 use Rattle.reading_bracketed.specs.Bounded.{Bounded}
+use Rattle.reading_bracketed.specs.Plain.{Knows}
 use Rattle.reading_bracketed.proofs.Bracketed.{bracketed-parses}
 
 -- what an array of 64-bit and one of smaller numbers hold
@@ -95,11 +96,11 @@ module _ (P : Pool) (w : Wide P) where
   unfolding treeOf
   bounded-tree p = bounded-at (suc p) p
 
-  -- what is written of a record's rule into a buffer, read again in either reading, is this very rule
+  -- what is written of a record's rule into a buffer, read again in a reading that has the rule's operators, is this very rule
   pub written-again :
-      (reading : Reading) (count root n : ℕ) (old : List ℕ) → writingOf P count root (length old) ≡ Length n →
+      (reading : Reading) (count root n : ℕ) (old : List ℕ) → Knows reading (treeOf P root) → writingOf P count root (length old) ≡ Length n →
       parsed reading (take n (leftBy (Length n) (bracketed (treeOf P root)) old)) ≡ rule (treeOf P root)
-  written-again reading count root n old e =
+  written-again reading count root n old k e =
       let d = written P count root (length old) n e in
       ap (parsed reading) (front P count root (length old) n old e)
-      ∙ bracketed-parses reading (treeOf P root) (bounded-tree root) (omega (arith, d .length-is, d .few))
+      ∙ bracketed-parses reading (treeOf P root) (bounded-tree root) k (omega (arith, d .length-is, d .few))
