@@ -1,5 +1,5 @@
--- Document 02, n: "the tool that writes the text from a loaded rule". What it writes of a record, read again in either reading, is the rule
--- of the record. Assumes nothing.
+-- Document 02, n: "the tool that writes the text from a loaded rule". What it writes of a record, read again in a reading that has the
+-- rule's operators, is the rule of the record. Assumes nothing.
 use Prim.Native.Nat.{ℕ, zero, suc, _-_, _%_, _<_, _^_}
 use mathlib.Core.Path.{_≡_, ap, _∙_}
 use mathlib.Core.Bool.{Bool, true, false}
@@ -16,9 +16,11 @@ use Rattle.rules_text.specs.Writing.{writingOf, leftBy}
 use Rattle.rules_text.specs.declared.Writing.the-variants.{Length}
 use Rattle.rules_text.proofs.Writings.{written, front}
 use Rattle.reading_rule.specs.declared.Reading.{Reading}
-use Rattle.reading_rule.specs.Plurals.{rule, parsed}
+use Rattle.reading_rule.specs.Plurals.{rule, parsed, treeIn}
 use Rattle.reading_bracketed.specs.Bounded.{Bounded}
+use Rattle.reading_bracketed.specs.Plain.{Knows}
 use Rattle.reading_bracketed.proofs.Bracketed.{bracketed-parses}
+use Rattle.reading_bracketed.proofs.Known.{read-known}
 
 -- what an array of 64-bit and one of smaller numbers hold
 pub record Wide (P : Pool) : Type 0 where
@@ -95,11 +97,18 @@ module _ (P : Pool) (w : Wide P) where
   unfolding treeOf
   bounded-tree p = bounded-at (suc p) p
 
-  -- what is written of a record's rule into a buffer, read again in either reading, is this very rule
+  -- what is written of a record's rule into a buffer, read again in a reading that has the rule's operators, is this very rule
   pub written-again :
-      (reading : Reading) (count root n : ℕ) (old : List ℕ) → writingOf P count root (length old) ≡ Length n →
+      (reading : Reading) (count root n : ℕ) (old : List ℕ) → Knows reading (treeOf P root) → writingOf P count root (length old) ≡ Length n →
       parsed reading (take n (leftBy (Length n) (bracketed (treeOf P root)) old)) ≡ rule (treeOf P root)
-  written-again reading count root n old e =
+  written-again reading count root n old k e =
       let d = written P count root (length old) n e in
       ap (parsed reading) (front P count root (length old) n old e)
-      ∙ bracketed-parses reading (treeOf P root) (bounded-tree root) (omega (arith, d .length-is, d .few))
+      ∙ bracketed-parses reading (treeOf P root) (bounded-tree root) k (omega (arith, d .length-is, d .few))
+
+  -- a rule that was read in a reading, or the default rule in place of one, written and read again in this reading, is the same rule
+  pub loaded-again :
+      (reading : Reading) (s : List ℕ) (count root n : ℕ) (old : List ℕ) → treeOf P root ≡ treeIn (parsed reading s) →
+      writingOf P count root (length old) ≡ Length n →
+      parsed reading (take n (leftBy (Length n) (bracketed (treeOf P root)) old)) ≡ rule (treeOf P root)
+  loaded-again reading s count root n old q e = written-again reading count root n old (rw q (read-known reading s)) e

@@ -9,7 +9,7 @@ use lib.Dec.{leb, ltb, eqb}
 use borrow.Author.Tests.{le-leb, lt-leb, leb-true, ne-eqb}
 use Rattle.text.proofs.Tests.{never, by-test, and-left, and-right}
 use Rattle.text_digits.specs.Digits.{digit}
-use Rattle.rules.specs.Tree.{Tree, var, int, nay, bin, cond, Op, cmp, and, or, rem, eq, ne, ge, le, gt, lt}
+use Rattle.rules.specs.Tree.{Tree, var, int, nay, bin, cond, Op, cmp, calc, and, or, rem, div, eq, ne, ge, le, gt, lt, plus, minus, times}
 use Rattle.text.specs.Bytes.{all}
 use Rattle.rules_text.specs.Bracketed.{signOf, bracketed}
 use Rattle.reading_bracketed.proofs.Decimal.{Digits, one, decimal-writes}
@@ -41,6 +41,10 @@ signs (cmp lt) = one-byte refl
 signs and = two-bytes refl refl
 signs or = two-bytes refl refl
 signs rem = one-byte refl
+signs div = one-byte refl
+signs (calc plus) = one-byte refl
+signs (calc minus) = one-byte refl
+signs (calc times) = one-byte refl
 
 pub all-signs : {g : List ℕ} → Sign g → all sign g ≡ true
 unfolding all

@@ -11,14 +11,16 @@ use lib.Dec.{eqb}
 use borrow.Author.Tests.{ne-eqb, eq-eqb, lt-ltb, le-ltb}
 use Rattle.text.specs.Bytes.{all}
 use Rattle.text_trim.specs.Trim.{trim, six}
+use Rattle.text_trim.specs.declared.Set.the-variants.{Six}
 use Rattle.text.proofs.Tests.{taken, left, and-left, and-right}
-use Rattle.rules.specs.Tree.{Tree, var, int, nay, bin, cond, Op, cmp, and, or, rem, eq, ne, ge, le, gt, lt, Reading, tree}
+use Rattle.rules.specs.Tree.{Tree, var, int, nay, bin, cond, Op, cmp, calc, and, or, rem, div, eq, ne, ge, le, gt, lt, Reading, tree}
 use Rattle.text_digits.specs.Digits.{digitsFrom, integer}
 use Rattle.reading_scan.specs.Scan.{indexOf, endFrom}
 use Rattle.levels.specs.Levels.{Kind, binary, ternary, Row, row, rows, found}
-use Rattle.reading_shipped.specs.Shipped.{one, two, three, readInt, bang, colon, readNot, choose, level, inside, parens, parseIn, shipped}
+use Rattle.reading_shipped.specs.Shipped.{one, two, three, readN, readInt, bang, colon, readNot, choose, level, inside, parens, parseIn, shipped}
 use Rattle.rules_text.specs.Bracketed.{signOf, brackets, bracketed, decimal}
 use Rattle.reading_bracketed.specs.Bounded.{Bounded}
+use Rattle.reading_bracketed.specs.Plain.{Plain-op, Plain}
 use Rattle.reading_bracketed.proofs.Decimal.{Digits, decimal-writes, shipped-integer}
 use Rattle.reading_bracketed.proofs.Decimal as decimals
 use Rattle.reading_bracketed.proofs.Marks.{sign, Sign, one-byte, two-bytes, signs, all-signs, sign-no-open}
@@ -159,18 +161,20 @@ at n e h = record { before = take n rows; after = drop (suc n) rows; is = e; pas
 abbrev avoids : List ℕ → List ℕ → Bool
 avoids g p = all sign p && passes p g 0
 
--- each operator's row: none above it has a match in the operator's own bytes
-row-of : (op : Op) → Row-of (signOf op) (binary op) (avoids (signOf op))
+-- the row of each of document 01's operators: none above it has a match in the operator's own bytes
+row-of : (op : Op) → Plain-op op → Row-of (signOf op) (binary op) (avoids (signOf op))
 unfolding allRows all passes
-row-of and = at 0 refl refl
-row-of or = at 1 refl refl
-row-of (cmp ge) = at 3 refl refl
-row-of (cmp gt) = at 4 refl refl
-row-of (cmp le) = at 5 refl refl
-row-of (cmp lt) = at 6 refl refl
-row-of (cmp eq) = at 7 refl refl
-row-of (cmp ne) = at 8 refl refl
-row-of rem = at 9 refl refl
+row-of and h = at 0 refl refl
+row-of or h = at 1 refl refl
+row-of (cmp ge) h = at 3 refl refl
+row-of (cmp gt) h = at 4 refl refl
+row-of (cmp le) h = at 5 refl refl
+row-of (cmp lt) h = at 6 refl refl
+row-of (cmp eq) h = at 7 refl refl
+row-of (cmp ne) h = at 8 refl refl
+row-of rem h = at 9 refl refl
+row-of div h = absurd h
+row-of (calc c) h = absurd h
 
 row-of-ask : Row-of (63 ∷ []) ternary (λ p. avoids (63 ∷ []) p && avoids (58 ∷ []) p)
 unfolding allRows all passes
@@ -189,10 +193,10 @@ operand-missed p o h = over-missed (operand-over (signs-clean p h) o)
 
 module _ (parse : List ℕ → Reading) where
   -- `parse_and`, .. `parse_mod`
-  binary-level : (op : Op) {x y : List ℕ} → Operand x → Operand y → level parse rows (x ++ (signOf op ++ y)) ≡ two op (parse x) (parse y)
+  binary-level : (op : Op) → Plain-op op → {x y : List ℕ} → Operand x → Operand y → level parse rows (x ++ (signOf op ++ y)) ≡ two op (parse x) (parse y)
   unfolding level
-  binary-level op {x} {y} o q =
-      let w = row-of op in
+  binary-level op h {x} {y} o q =
+      let w = row-of op h in
       rw (w .is)
       (rows-past parse s (avoids g) miss (w .before) (row g (binary op) ∷ w .after) (w .passed)
       ∙ (taken _ _ (lt-ltb (indexOf g s) (length s) (omega (arith, place, sign-some (signs op), length-append x (g ++ y), length-append g y)))
@@ -267,7 +271,7 @@ module _ (parse : List ℕ → Reading) where
   unfolding level allRows all passes readNot
   not-level {x} o v =
       rows-past parse (33 ∷ x) (avoids bang) miss rows [] refl
-      ∙ (rw (trim-visible (byte {b = 33} refl v))
+      ∙ (rw (trim-visible Six (byte {b = 33} refl v))
       (taken _ _ (lt-ltb (indexOf bang (33 ∷ x)) (suc (length x)) (omega (arith, place)))
       ∙ taken _ _ (eq-eqb (indexOf bang (33 ∷ x)) 0 place)))
     where
@@ -282,7 +286,7 @@ module _ (parse : List ℕ → Reading) where
   unfolding level allRows all readNot
   atom-level {x} o v =
       rows-past parse x (all sign) (λ p e. missing (operand-missed p o e)) rows [] refl
-      ∙ (rw (trim-visible v) (left _ _ (missing (operand-missed bang o refl)) ∙ rw (trim-visible v)))
+      ∙ (rw (trim-visible Six v) (left _ _ (missing (operand-missed bang o refl)) ∙ rw (trim-visible Six v)))
 
 int-read : (v : ℕ) → v < 2 ^ 64 → readInt (decimal v) ≡ tree (int v)
 int-read v h = rw (shipped-integer (decimal-writes v) h)
@@ -290,16 +294,16 @@ int-read v h = rw (shipped-integer (decimal-writes v) h)
 -- `parse`, with fuel
 strip : {s : List ℕ} → Balanced s → Visible s → (f : ℕ) → parseIn (suc f) (brackets s) ≡ parseIn f s
 unfolding parseIn
-strip d v f = rw (trim-visible (in-brackets v)) (parens-strip (parseIn f) d ∙ rw (trim-visible v))
+strip d v f = rw (trim-visible Six (in-brackets v)) (parens-strip (parseIn f) d ∙ rw (trim-visible Six v))
 
 bare : {x g : List ℕ} (r : List ℕ) → Operand x → Sign g → 0 < length r → Visible (x ++ (g ++ r)) → (f : ℕ)
     → parseIn (suc f) (x ++ (g ++ r)) ≡ level (parseIn f) rows (x ++ (g ++ r))
 unfolding parseIn
-bare r o g l v f = rw (trim-visible v) (opened (parseIn f) r o g l ∙ rw (trim-visible v))
+bare r o g l v f = rw (trim-visible Six v) (opened (parseIn f) r o g l ∙ rw (trim-visible Six v))
 
 plain : {b : ℕ} {r : List ℕ} → eqb b 40 ≡ false → Visible (b ∷ r) → (f : ℕ) → parseIn (suc f) (b ∷ r) ≡ level (parseIn f) rows (b ∷ r)
 unfolding parseIn parens
-plain h v f = rw (trim-visible v) (left _ _ h ∙ rw (trim-visible v))
+plain h v f = rw (trim-visible Six v) (left _ _ h ∙ rw (trim-visible Six v))
 
 module _ {x : List ℕ} (a : Text x) (f : ℕ) where
   read-not : parseIn (suc (suc f)) (brackets (33 ∷ x)) ≡ one (parseIn f x)
@@ -308,11 +312,11 @@ module _ {x : List ℕ} (a : Text x) (f : ℕ) where
       strip (not-balanced a) v (suc f) ∙ (plain refl v f ∙ not-level (parseIn f) (a .operand) (a .visible))
 
   module _ {y : List ℕ} (b : Text y) where
-    read-binary : (op : Op) → parseIn (suc (suc f)) (brackets (x ++ signOf op ++ y)) ≡ two op (parseIn f x) (parseIn f y)
-    read-binary op =
+    read-binary : (op : Op) → Plain-op op → parseIn (suc (suc f)) (brackets (x ++ signOf op ++ y)) ≡ two op (parseIn f x) (parseIn f y)
+    read-binary op h =
         let v : Visible (x ++ (signOf op ++ y)) = both-visible (a .visible) (both-visible (sign-seen (signs op)) (b .visible)) in
         strip (binary-balanced a b op) (rw append-assoc v) (suc f)
-        ∙ rw append-assoc (bare y (a .operand) (signs op) (operand-some (b .operand)) v f ∙ binary-level (parseIn f) op (a .operand) (b .operand))
+        ∙ rw append-assoc (bare y (a .operand) (signs op) (operand-some (b .operand)) v f ∙ binary-level (parseIn f) op h (a .operand) (b .operand))
 
     read-ternary : {z : List ℕ} → Text z
         → parseIn (suc (suc f)) (brackets (x ++ 63 ∷ y ++ 58 ∷ z)) ≡ three (parseIn f x) (parseIn f y) (parseIn f z)
@@ -331,8 +335,8 @@ first-digit : {b : ℕ} {s : List ℕ} → Digits (b ∷ s) → eqb b 40 ≡ fal
 first-digit (decimals.one {b} i j d) = ne-eqb b 40 (λ e. omega arith)
 
 read-n : (f : ℕ) → parseIn (suc f) (110 ∷ []) ≡ tree var
-unfolding bracketed integer digitsFrom trim
-read-n f = read-atom refl (text var) f
+unfolding bracketed integer digitsFrom
+read-n f = read-atom refl (text var) f ∙ ap readN (trim-visible Six (text var .visible))
 
 read-int : (v : ℕ) → v < 2 ^ 64 → Text (decimal v) → (f : ℕ) → parseIn (suc f) (decimal v) ≡ tree (int v)
 read-int v h a f =
@@ -341,24 +345,24 @@ read-int v h a f =
     d ∙ int-read v h
 
 -- any fuel above the text's length is enough
-reads-back : (t : Tree) → Bounded t → (f : ℕ) → length (bracketed t) < f → parseIn f (bracketed t) ≡ tree t
+reads-back : (t : Tree) → Bounded t → Plain t → (f : ℕ) → length (bracketed t) < f → parseIn f (bracketed t) ≡ tree t
 unfolding bracketed
-reads-back t h zero l = absurd (omega arith)
-reads-back var h (suc f) l = read-n f
-reads-back (int v) h (suc f) l = read-int v h (text (int v)) f
-reads-back (nay t) h (suc zero) l = absurd (omega arith)
-reads-back (nay t) h (suc (suc f)) l =
-    read-not (text t) f ∙ rw (reads-back t h f (omega (arith, length-not t)))
-reads-back (bin op s t) h (suc zero) l = absurd (omega arith)
-reads-back (bin op s t) h (suc (suc f)) l =
+reads-back t h p zero l = absurd (omega arith)
+reads-back var h p (suc f) l = read-n f
+reads-back (int v) h p (suc f) l = read-int v h (text (int v)) f
+reads-back (nay t) h p (suc zero) l = absurd (omega arith)
+reads-back (nay t) h p (suc (suc f)) l =
+    read-not (text t) f ∙ rw (reads-back t h p f (omega (arith, length-not t)))
+reads-back (bin op s t) h p (suc zero) l = absurd (omega arith)
+reads-back (bin op s t) h p (suc (suc f)) l =
     let m : length (bracketed s) + length (bracketed t) < f = omega (arith, length-binary op s t) in
-    read-binary (text s) f (text t) op ∙ rw (reads-back s (h .0) f (omega arith), reads-back t (h .1) f (omega arith))
-reads-back (cond s t u) h (suc zero) l = absurd (omega arith)
-reads-back (cond s t u) h (suc (suc f)) l =
+    read-binary (text s) f (text t) op (p .0) ∙ rw (reads-back s (h .0) (p .1) f (omega arith), reads-back t (h .1) (p .2) f (omega arith))
+reads-back (cond s t u) h p (suc zero) l = absurd (omega arith)
+reads-back (cond s t u) h p (suc (suc f)) l =
     let m : length (bracketed s) + length (bracketed t) + length (bracketed u) < f = omega (arith, length-ternary s t u) in
     read-ternary (text s) f (text t) (text u)
-    ∙ rw (reads-back s (h .0) f (omega arith), reads-back t (h .1) f (omega arith), reads-back u (h .2) f (omega arith))
+    ∙ rw (reads-back s (h .0) (p .0) f (omega arith), reads-back t (h .1) (p .1) f (omega arith), reads-back u (h .2) (p .2) f (omega arith))
 
-pub shipped-bracketed : (t : Tree) → Bounded t → shipped (bracketed t) ≡ tree t
+pub shipped-bracketed : (t : Tree) → Bounded t → Plain t → shipped (bracketed t) ≡ tree t
 unfolding shipped
-shipped-bracketed t h = reads-back t h (suc (length (bracketed t))) (omega arith)
+shipped-bracketed t h p = reads-back t h p (suc (length (bracketed t))) (omega arith)

@@ -8,7 +8,7 @@ use native.Mathlib.Omega.{arith}
 use lib.Dec.{leb, eqb}
 use borrow.Author.Tests.{leb-true, leb-false, ne-eqb}
 use Rattle.text.proofs.Tests.{by-test, taken, left}
-use Rattle.rules.specs.Tree.{Tree, var, int, nay, bin, cond, Op, cmp, and, or, rem, eq, ne, ge, le, gt, lt, tree}
+use Rattle.rules.specs.Tree.{Tree, var, int, nay, bin, cond, Op, cmp, calc, and, or, rem, div, eq, ne, ge, le, gt, lt, plus, minus, times, tree}
 use Rattle.reading_grammar.specs.Grammar.{Token, sign, number, mark, letter-n, bang, ask, colon, opening, closing, rank, loosest, full, Derives, variable, integer, bracket, negation, tighter, binary, conditional}
 use Rattle.reading_grammar.specs.Tokens.{lex, start, digits, tokens, digit, blank, two, twos, ones, findTwo, findOne}
 use Rattle.reading_grammar.specs.Reading.{standard}
@@ -45,6 +45,10 @@ some-rank (cmp lt) = omega arith
 some-rank and = omega arith
 some-rank or = omega arith
 some-rank rem = omega arith
+some-rank div = omega arith
+some-rank (calc plus) = omega arith
+some-rank (calc minus) = omega arith
+some-rank (calc times) = omega arith
 
 derives : (t : Tree) → Bounded t → Derives 0 (tokensOf t) t
 unfolding tokensOf
@@ -104,6 +108,10 @@ signed (cmp lt) {x} w = single 60 x refl refl (no-equals 60 w (λ c e. left _ _ 
 signed and w = refl
 signed or w = refl
 signed rem {x} w = single 37 x refl refl (alone 37 x (λ c. refl))
+signed div {x} w = single 47 x refl refl (alone 47 x (λ c. refl))
+signed (calc plus) {x} w = single 43 x refl refl (alone 43 x (λ c. refl))
+signed (calc minus) {x} w = single 45 x refl refl (alone 45 x (λ c. refl))
+signed (calc times) {x} w = single 42 x refl refl (alone 42 x (λ c. refl))
 
 negated : {x : List ℕ} → Begins x → lex start (33 ∷ x) ≡ bang ∷ lex start x
 negated w = single 33 _ refl refl (no-equals 33 w (λ c e. left _ _ e))

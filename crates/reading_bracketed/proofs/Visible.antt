@@ -1,14 +1,19 @@
 -- A bracketed text has no white space and is ASCII: trimming leaves it. Assumes nothing.
-use Prim.Native.Nat.{ℕ, _≤_}
-use mathlib.Core.Path.{_≡_, refl, ap}
-use mathlib.Core.Bool.{true, false}
-use mathlib.Core.List.{List, [], _∷_, _++_}
+use Prim.Native.Nat.{ℕ, _<_}
+use mathlib.Core.Path.{_≡_, refl, sym}
+use mathlib.Core.Bool.{Bool, true, not}
+use mathlib.Core.List.{List, [], _∷_, _++_, append-nil}
 use native.Mathlib.Omega.{arith}
 use lib.Dec.{leb, ltb}
-use borrow.Author.Tests.{leb-true, le-leb, lt-leb, lt-ltb, ne-eqb}
+use lib.ListN.{length}
+use borrow.Author.Tests.{le-leb, lt-ltb}
 use Rattle.text.specs.Bytes.{all}
-use Rattle.text_trim.specs.Trim.{six, trim, trimStart, trimEnd}
-use Rattle.text.proofs.Tests.{and-left, and-right}
+use Rattle.text_trim.specs.Trim.{charsOf, encode, In, end, trim}
+use Rattle.text_trim.specs.declared.Set.{Set}
+use Rattle.text_trim.specs.declared.Set.the-variants.{WhiteSpace, Six, Label}
+use Rattle.text_trim.proofs.Encodings.{each, each-at, code, solid}
+use Rattle.text_trim.proofs.Middle.{one-middle}
+use Rattle.text.proofs.Tests.{never, and-right}
 use Rattle.rules.specs.Tree.{Tree, var, int, nay, bin, cond}
 use Rattle.rules_text.specs.Bracketed.{brackets, bracketed}
 use Rattle.reading_bracketed.proofs.Decimal.{Digits, none, one, decimal-writes}
@@ -42,21 +47,44 @@ seen (nay t) = in-brackets (byte refl (seen t))
 seen (bin op s t) = in-brackets (both-visible (both-visible (seen s) (sign-seen (signs op))) (seen t))
 seen (cond s t u) = in-brackets (both-visible (both-visible (seen s) (byte refl (seen t))) (byte refl (seen u)))
 
--- trimming
-not-white : (b : ℕ) → visible b ≡ true → six b ≡ false
-not-white b h =
-    let l : 33 ≤ b = leb-true 33 b (and-left _ (ltb b 128) h) in
-    rw (le-leb 9 b (omega arith), lt-leb b 13 (omega arith), ne-eqb b 32 (λ e. omega arith))
+-- a part of it
+front-visible : (s t : List ℕ) → Visible (s ++ t) → Visible s
+front-visible [] t d = empty
+front-visible (b ∷ s) t (byte h d) = byte h (front-visible s t d)
 
-end-visible : {s : List ℕ} → Visible s → trimEnd six s ≡ s
-unfolding trimEnd
-end-visible empty = refl
-end-visible (byte {b} {s} h d) = rw (not-white b h) (ap (λ (l : List ℕ). b ∷ l) (end-visible d))
+back-visible : (s t : List ℕ) → Visible (s ++ t) → Visible t
+back-visible [] t d = d
+back-visible (b ∷ s) t (byte h d) = back-visible s t d
 
-pub trim-visible : {s : List ℕ} → Visible s → trim six s ≡ s
-unfolding trim trimStart trimEnd
-trim-visible empty = refl
-trim-visible (byte {b} {s} h d) = rw (not-white b h, trimStart) (end-visible (byte h d))
+-- trimming: no byte of a character that is trimmed is visible
+abbrev dark : List ℕ → Bool
+dark e = all (λ b. not (visible b)) e
+
+all-dark : (set : Set) → each dark (charsOf set) ≡ true
+unfolding encode all
+all-dark WhiteSpace = refl
+all-dark Six = refl
+all-dark Label = refl
+
+none-dark : {e : List ℕ} → 0 < length e → dark e ≡ true → Visible e → ⊥
+unfolding all
+none-dark l h empty = omega arith
+none-dark l h (byte {b} {s} k d) = never (rw k at h)
+
+module _ (set : Set) {s : List ℕ} (v : Visible s) where
+  never-white : {e : List ℕ} → In e (charsOf set) → Visible e → ⊥
+  never-white i d = none-dark (solid (code set) i) (each-at dark (charsOf set) (all-dark set) i) d
+
+  pub trim-visible : trim (charsOf set) s ≡ s
+  trim-visible = sym (one-middle set (record {
+    before = [];
+    after = [];
+    is = sym (append-nil s);
+    white-before = end;
+    white-after = end;
+    starts = λ e t i q. never-white i (front-visible e t (rw q at v));
+    ends = λ e t i q. never-white i (back-visible t e (rw q at v));
+  }))
 
 pub ascii-visible : {s : List ℕ} → Visible s → all (λ b. ltb b 128) s ≡ true
 unfolding all
