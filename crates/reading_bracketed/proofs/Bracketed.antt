@@ -36,4 +36,3 @@ bracketed-differs s t h k e =
     let b : readAs Standard (bracketed t) ≡ tree t = bracketed-reads Standard t k in
     let c : tree s ≡ tree t = rw (← a, e) b in
     cc
-

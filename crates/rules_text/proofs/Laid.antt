@@ -1,7 +1,7 @@
 -- Texts put one after the other are their join put at once; a byte and a number are put. Assumes nothing.
 use Prim.Native.Nat.{ℕ, suc, _+_, _/_, _%_, _<_, _≤_}
 use mathlib.Core.Path.{_≡_, refl, sym, ap, _∙_}
-use mathlib.Core.Bool.{Bool, true, false}
+use mathlib.Core.Bool.{true, false}
 use mathlib.Core.List.{List, [], _∷_, _++_}
 use native.Mathlib.Omega.{arith}
 use lib.ListN.{length, set, getD, length-append, length-set}
@@ -71,11 +71,12 @@ module _ (old s : List ℕ) {x : List ℕ} (i : ℕ) (e : x ≡ paste old 0 s i)
       (length (set x i (getD s i 0)) ≡ length old) × (set x i (getD s i 0) ≡ paste old 0 s (i + 1))
   copied k h l =
       let z : i ≡ 0 + i = omega arith in
-      let n : suc i ≡ i + 1 = omega arith in
-      (length-set x i (getD s i 0) ∙ k,
-      ap (λ (y : List ℕ). set y i (getD s i 0)) e
-      ∙ (ap (λ (j : ℕ). set (paste old 0 s i) j (getD s i 0)) z
-      ∙ (paste-suc old 0 s i 0 (omega arith) l ∙ ap (λ (j : ℕ). paste old 0 s j) n)))
+      let n : suc i ≡ i + 1 = omega arith in (
+        length-set x i (getD s i 0) ∙ k,
+        ap (λ (y : List ℕ). set y i (getD s i 0)) e
+            ∙ (ap (λ (j : ℕ). set (paste old 0 s i) j (getD s i 0)) z
+            ∙ (paste-suc old 0 s i 0 (omega arith) l ∙ ap (λ (j : ℕ). paste old 0 s j) n)),
+      )
 
   pub copied-all : i ≤ length s → length s ≤ i → x ≡ paste old 0 s (length s)
   copied-all h l = let n : i ≡ length s = omega arith in e ∙ ap (λ (j : ℕ). paste old 0 s j) n

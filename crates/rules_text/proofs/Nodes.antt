@@ -1,5 +1,5 @@
 -- What the operator at a place of a pool is, by its code: the operands of its tree, and what is written before the last of them.
-use Prim.Native.Nat.{ℕ, _-_, _*_, _+_, _<_, _≤_, _%_, _/_}
+use Prim.Native.Nat.{ℕ, _-_, _+_, _<_, _%_, _/_}
 use mathlib.Core.Path.{_≡_, refl, sym, ap, _∙_}
 use mathlib.Core.Bool.{Bool, true, false, _||_}
 use mathlib.Core.List.{List, [], _∷_, _++_, append-assoc}
@@ -9,13 +9,12 @@ use borrow.Author.Tests.{lt-ltb, le-ltb, ne-eqb, ltb-true, ltb-false, leb-true, 
 use Rattle.text.proofs.Tests.{by-test, never}
 use Rattle.rules.specs.Tree.{Tree, var, int, nay, bin, cond, Op, rem}
 use Rattle.rules.specs.Operator.{opOf, Named}
-use Rattle.rules.specs.Pool.{Pool, code, field, value, leaf, one, two, treeOf}
+use Rattle.rules.specs.Pool.{Pool, code, field, value, one, two, treeOf}
 use Rattle.rules.specs.Sound.{Sound}
 use Rattle.rules.proofs.Trees.{known-in, op-low, op-high, before-in, first-in, second-in, down, tree-leaf, tree-one, tree-two, tree-three, leaf-op, leaf-rest, one-op, two-op}
-use Rattle.rules_text.specs.declared.Part.{Part}
 use Rattle.rules_text.specs.declared.Part.the-variants.{N, Number, Rest, Node}
 use Rattle.rules_text.specs.Bracketed.{bracketed}
-use Rattle.rules_text.specs.Private.{signBy, firstOf, secondOf, lastOf, leadOf, ternary, partTree, Held, depth, Operand}
+use Rattle.rules_text.specs.Private.{signBy, firstOf, secondOf, lastOf, leadOf, ternary, Operand}
 
 -- a binary operator
 record Binary (P : Pool) (p : ℕ) (s t : Tree) : Type 0 where

@@ -6,7 +6,7 @@ use rules::place;
 ghost use mathlib.Core.Path.{_≡_};
 ghost use mathlib.Core.Bool.{true};
 ghost use mathlib.Core.List.{[], _∷_};
-ghost use Prim.Native.Nat.{_<_, _≤_, _+_, _*_};
+ghost use Prim.Native.Nat.{_<_, _≤_};
 ghost use lib.ListN.{length, getD};
 ghost use lib.Seq.{paste};
 ghost use Rattle.rules.specs.Operator.{opOf, Named};
@@ -106,7 +106,8 @@ fn first<'a>(
 ) -> Part
     requires sound { ⌜ Sound (pool (now codes) (now places) (now values)) at ⌝ }
     requires more { ⌜ (15 < getD (now codes) at 0) × (getD (now codes) at 0 ≡ 48 → ⊥) ⌝ }
-    ensures { λ r. ⌜ Operand (pool (now (codes .entry)) (now (places .entry)) (now (values .entry))) at (firstOf (treeOf (pool (now (codes .entry)) (now (places .entry)) (now (values .entry))) at)) r ⌝ }
+    ensures { λ r. ⌜ Operand (pool (now (codes .entry)) (now (places .entry)) (now (values .entry)))
+        at (firstOf (treeOf (pool (now (codes .entry)) (now (places .entry)) (now (values .entry))) at)) r ⌝ }
 {
     let code = codes[at];
     if code < node::REST_OP {
@@ -130,7 +131,8 @@ fn second<'a>(
 ) -> Part
     requires sound { ⌜ Sound (pool (now codes) (now places) (now values)) at ⌝ }
     requires three { ⌜ ternary (getD (now codes) at 0) ≡ true ⌝ }
-    ensures { λ r. ⌜ Operand (pool (now (codes .entry)) (now (places .entry)) (now (values .entry))) at (secondOf (treeOf (pool (now (codes .entry)) (now (places .entry)) (now (values .entry))) at)) r ⌝ }
+    ensures { λ r. ⌜ Operand (pool (now (codes .entry)) (now (places .entry)) (now (values .entry)))
+        at (secondOf (treeOf (pool (now (codes .entry)) (now (places .entry)) (now (values .entry))) at)) r ⌝ }
 {
     if codes[at] < node::TERNARY {
         return Part::Number(values[at]);
@@ -147,7 +149,8 @@ fn last<'a>(
 ) -> Part
     requires sound { ⌜ Sound (pool (now codes) (now places) (now values)) at ⌝ }
     requires operator { ⌜ 1 < getD (now codes) at 0 ⌝ }
-    ensures { λ r. ⌜ Operand (pool (now (codes .entry)) (now (places .entry)) (now (values .entry))) at (lastOf (treeOf (pool (now (codes .entry)) (now (places .entry)) (now (values .entry))) at)) r ⌝ }
+    ensures { λ r. ⌜ Operand (pool (now (codes .entry)) (now (places .entry)) (now (values .entry)))
+        at (lastOf (treeOf (pool (now (codes .entry)) (now (places .entry)) (now (values .entry))) at)) r ⌝ }
 {
     let code = codes[at];
     if node::OP <= code {
@@ -172,7 +175,8 @@ fn put_part<'a>(
     at: usize,
 ) -> usize
     requires { ⌜ Held (pool (now codes) (now places) (now values)) part ⌝ }
-    ensures { λ r. ⌜ Puts (bracketed (partTree (pool (now (codes .entry)) (now (places .entry)) (now (values .entry))) part)) at (now (out .entry)) (now (out .exit)) r ⌝ }
+    ensures { λ r. ⌜ Puts (bracketed (partTree (pool (now (codes .entry)) (now (places .entry)) (now (values .entry))) part))
+        at (now (out .entry)) (now (out .exit)) r ⌝ }
 {
     match part {
         Part::N => put_byte(out, at, b'n'),
@@ -193,16 +197,19 @@ fn put_lead<'a>(
 ) -> usize
     requires sound { ⌜ Sound (pool (now codes) (now places) (now values)) p ⌝ }
     requires operator { ⌜ 1 < getD (now codes) p 0 ⌝ }
-    ensures { λ r. ⌜ Puts (leadOf (treeOf (pool (now (codes .entry)) (now (places .entry)) (now (values .entry))) p)) at (now (out .entry)) (now (out .exit)) r ⌝ }
+    ensures { λ r. ⌜ Puts (leadOf (treeOf (pool (now (codes .entry)) (now (places .entry)) (now (values .entry))) p))
+        at (now (out .entry)) (now (out .exit)) r ⌝ }
 {
     let code = codes[p];
     if code == node::NOT {
         return put_byte(out, at, b'!');
     }
-    let sign = put_part(codes, places, values, first(codes, places, values, p), out, at);
+    let part = first(codes, places, values, p);
+    let sign = put_part(codes, places, values, part, out, at);
     if is_ternary(code) {
         let yes = put_byte(out, sign, b'?');
-        let colon = put_part(codes, places, values, second(codes, places, values, p), out, yes);
+        let part = second(codes, places, values, p);
+        let colon = put_part(codes, places, values, part, out, yes);
         return put_byte(out, colon, b':');
     }
     put_sign(out, sign, code % 16)
@@ -218,7 +225,8 @@ fn put_node<'a>(
     at: usize,
 ) -> usize
     requires { ⌜ Sound (pool (now codes) (now places) (now values)) p ⌝ }
-    ensures { λ r. ⌜ Puts (bracketed (treeOf (pool (now (codes .entry)) (now (places .entry)) (now (values .entry))) p)) at (now (out .entry)) (now (out .exit)) r ⌝ }
+    ensures { λ r. ⌜ Puts (bracketed (treeOf (pool (now (codes .entry)) (now (places .entry)) (now (values .entry))) p))
+        at (now (out .entry)) (now (out .exit)) r ⌝ }
 {
     let code = codes[p];
     if code == node::N {
@@ -229,7 +237,8 @@ fn put_node<'a>(
     }
     let lead = put_byte(out, at, b'(');
     let end = put_lead(codes, places, values, p, out, lead);
-    let close = put_part(codes, places, values, last(codes, places, values, p), out, end);
+    let part = last(codes, places, values, p);
+    let close = put_part(codes, places, values, part, out, end);
     put_byte(out, close, b')')
 }
 
@@ -254,8 +263,10 @@ pub fn write<'a>(
     root: usize,
     buffer: &mut [u8],
 ) -> Writing
-    ensures answer { λ r. ⌜ r ≡ writingOf (pool (now (codes .entry)) (now (places .entry)) (now (values .entry))) count root (length (now (buffer .entry))) ⌝ }
-    ensures left { λ r. ⌜ now (buffer .exit) ≡ leftBy r (bracketed (treeOf (pool (now (codes .entry)) (now (places .entry)) (now (values .entry))) root)) (now (buffer .entry)) ⌝ }
+    ensures answer { λ r. ⌜ r ≡ writingOf (pool (now (codes .entry)) (now (places .entry)) (now (values .entry)))
+        count root (length (now (buffer .entry))) ⌝ }
+    ensures left { λ r. ⌜ now (buffer .exit) ≡ leftBy r
+        (bracketed (treeOf (pool (now (codes .entry)) (now (places .entry)) (now (values .entry))) root)) (now (buffer .entry)) ⌝ }
 {
     if !rules_tree::is_tree(codes, places, count, root) {
         return Writing::NoTree;
