@@ -242,13 +242,13 @@ fn put_node<'a>(
     put_byte(out, close, b')')
 }
 
-// Copies a text to the front of a buffer.
-fn copy<'a>(text: &'a [u8], buffer: &mut [u8])
-    requires { ⌜ length (now text) ≤ length (now buffer) ⌝ }
-    ensures { λ _. ⌜ now (buffer .exit) ≡ paste (now (buffer .entry)) 0 (now (text .entry)) (length (now (text .entry))) ⌝ }
+// Copies the first n bytes of a text to the front of a buffer.
+fn copy<'a>(text: &'a [u8], n: usize, buffer: &mut [u8])
+    requires { ⌜ (n ≤ length (now text)) × (n ≤ length (now buffer)) ⌝ }
+    ensures { λ _. ⌜ now (buffer .exit) ≡ paste (now (buffer .entry)) 0 (now (text .entry)) n ⌝ }
 {
     let mut i = 0;
-    while i < text.len() {
+    while i < n {
         buffer[i] = text[i];
         i += 1;
     }
@@ -279,6 +279,6 @@ pub fn write<'a>(
     if buffer.len() < n {
         return Writing::TooLong;
     }
-    copy(&text[..n], buffer);
+    copy(&text, n, buffer);
     Writing::Length(n)
 }
