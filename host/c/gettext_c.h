@@ -117,6 +117,12 @@ typedef struct gr_form {
     uint64_t form;
 } gr_form;
 
+/* How long the text of a rule is that was written, beside GR_OK. */
+typedef struct gr_written {
+    uint32_t number;
+    size_t len;
+} gr_written;
+
 /* A layout that the library does not share does not compile: an array of a negative size. */
 #define GR_LAYOUT(name, holds) typedef char gr_layout_of_##name[(holds) ? 1 : -1]
 GR_LAYOUT(size_t, sizeof(size_t) == 8);
@@ -164,6 +170,8 @@ gr_form gettext_c_resolve(const gr_head *head, const uint8_t codes[512], const u
                           uint64_t n);
 uint32_t gettext_c_span(const gr_head *head, const uint8_t codes[512], const uint16_t places[1024], const uint64_t values[512], uint64_t a,
                         uint64_t b, uint64_t figures[18]);
+gr_written gettext_c_text(const gr_head *head, const uint8_t codes[512], const uint16_t places[1024], const uint64_t values[512],
+                          uint8_t *buffer, size_t buffer_len);
 uint32_t gettext_c_is_utf8(const uint8_t *text, size_t text_len);
 uint64_t gettext_c_cost(const uint8_t *file, size_t file_len);
 
@@ -359,6 +367,16 @@ static inline gr_fit gr_fits(const gr_record *r, uint64_t k)
 static inline gr_form gr_resolve(const gr_record *r, uint64_t n)
 {
     return gettext_c_resolve(&r->head, r->codes, r->places, r->values, n);
+}
+
+/*
+ * Writes the rule's text with brackets round every operator: both readings give that very rule back (the Standard one alone, where it has
+ * + - * or /). A buffer of 512 bytes is always enough. Answers GR_OK and the length, GR_BAD_RECORD, or GR_RULE_TOO_LONG for a text over 512 bytes or
+ * longer than the buffer; a refusal writes nothing, and the rest of the buffer stays. No NUL is added.
+ */
+static inline gr_written gr_rule_text(const gr_record *r, char *buffer, size_t buffer_len)
+{
+    return gettext_c_text(&r->head, r->codes, r->places, r->values, (uint8_t *)buffer, buffer_len);
 }
 
 /*

@@ -282,6 +282,26 @@ static void longest_rules(void)
     free(g);
 }
 
+/* The text of a rule, with its brackets. */
+static void texts(void)
+{
+    size_t size = 50;
+    uint8_t *g = copy(size);
+    gr_record r;
+    char buffer[513];
+    memset(buffer, '~', sizeof buffer);
+    CHECK(gr_load(g, size, with("n%10==1 ? 0 : !n", GR_STANDARD), &r) == GR_OK);
+    gr_written w = gr_rule_text(&r, buffer, 512);
+    CHECK(w.number == GR_OK && w.len == 19 && memcmp(buffer, "(((n%10)==1)?0:(!n))~", 21) == 0);
+    CHECK(gr_load(g, size, with("(((n%10)==1)?0:(!n))", GR_SHIPPED), &r) == GR_OK && gr_resolve(&r, 11).form == 0 && gr_resolve(&r, 0).form == 1);
+    memset(buffer, '~', sizeof buffer);
+    w = gr_rule_text(&r, buffer, 19);
+    CHECK(w.number == GR_RULE_TOO_LONG && w.len == 0 && buffer[0] == '~');
+    r.head.root = 512;
+    CHECK(gr_rule_text(&r, buffer, 512).number == GR_BAD_RECORD && buffer[0] == '~');
+    free(g);
+}
+
 /* Which forms a rule names over a span of counts. */
 static void spans(void)
 {
@@ -306,6 +326,7 @@ int main(void)
 {
     nulls();
     spans();
+    texts();
     options_and_names();
     longest_rules();
     loads_and_refusals();

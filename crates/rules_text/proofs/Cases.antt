@@ -2,7 +2,6 @@
 use Prim.Native.Nat.{ℕ}
 use Prim.Native.String as Str
 use mathlib.Core.Path.{_≡_, refl}
-use mathlib.Core.Bool.{true}
 use mathlib.Core.List.{List, [], _∷_, map}
 use lib.ListN.{length}
 use Rattle.text.specs.Bytes.{bytes}

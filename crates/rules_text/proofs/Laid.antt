@@ -1,7 +1,7 @@
 -- Texts put one after the other are their join put at once; a byte and a number are put. Assumes nothing.
 use Prim.Native.Nat.{ℕ, suc, _+_, _/_, _%_, _<_, _≤_}
 use mathlib.Core.Path.{_≡_, refl, sym, ap, _∙_}
-use mathlib.Core.Bool.{Bool, true, false}
+use mathlib.Core.Bool.{true, false}
 use mathlib.Core.List.{List, [], _∷_, _++_}
 use native.Mathlib.Omega.{arith}
 use lib.ListN.{length, set, getD, length-append, length-set}
@@ -78,5 +78,5 @@ module _ (old s : List ℕ) {x : List ℕ} (i : ℕ) (e : x ≡ paste old 0 s i)
             ∙ (paste-suc old 0 s i 0 (omega arith) l ∙ ap (λ (j : ℕ). paste old 0 s j) n)),
       )
 
-  pub copied-all : i ≤ length s → length s ≤ i → x ≡ paste old 0 s (length s)
-  copied-all h l = let n : i ≡ length s = omega arith in e ∙ ap (λ (j : ℕ). paste old 0 s j) n
+  pub copied-all : {n : ℕ} → i ≤ n → n ≤ i → x ≡ paste old 0 s n
+  copied-all {n} h l = let d : i ≡ n = omega arith in e ∙ ap (λ (j : ℕ). paste old 0 s j) d

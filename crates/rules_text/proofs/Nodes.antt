@@ -1,5 +1,5 @@
 -- What the operator at a place of a pool is, by its code: the operands of its tree, and what is written before the last of them.
-use Prim.Native.Nat.{ℕ, _-_, _*_, _+_, _<_, _≤_, _%_, _/_}
+use Prim.Native.Nat.{ℕ, _-_, _+_, _<_, _%_, _/_}
 use mathlib.Core.Path.{_≡_, refl, sym, ap, _∙_}
 use mathlib.Core.Bool.{Bool, true, false, _||_}
 use mathlib.Core.List.{List, [], _∷_, _++_, append-assoc}
@@ -9,13 +9,12 @@ use borrow.Author.Tests.{lt-ltb, le-ltb, ne-eqb, ltb-true, ltb-false, leb-true, 
 use Rattle.text.proofs.Tests.{by-test, never}
 use Rattle.rules.specs.Tree.{Tree, var, int, nay, bin, cond, Op, rem}
 use Rattle.rules.specs.Operator.{opOf, Named}
-use Rattle.rules.specs.Pool.{Pool, code, field, value, leaf, one, two, treeOf}
+use Rattle.rules.specs.Pool.{Pool, code, field, value, one, two, treeOf}
 use Rattle.rules.specs.Sound.{Sound}
 use Rattle.rules.proofs.Trees.{known-in, op-low, op-high, before-in, first-in, second-in, down, tree-leaf, tree-one, tree-two, tree-three, leaf-op, leaf-rest, one-op, two-op}
-use Rattle.rules_text.specs.declared.Part.{Part}
 use Rattle.rules_text.specs.declared.Part.the-variants.{N, Number, Rest, Node}
 use Rattle.rules_text.specs.Bracketed.{bracketed}
-use Rattle.rules_text.specs.Private.{signBy, firstOf, secondOf, lastOf, leadOf, ternary, partTree, Held, depth, Operand}
+use Rattle.rules_text.specs.Private.{signBy, firstOf, secondOf, lastOf, leadOf, ternary, Operand}
 
 -- a binary operator
 record Binary (P : Pool) (p : ℕ) (s t : Tree) : Type 0 where
@@ -38,7 +37,7 @@ three-whole : (s t u : Tree) → Whole (cond s t u)
 unfolding bracketed
 three-whole s t u = ap (λ (l : List ℕ). 40 ∷ l ++ 41 ∷ []) (sym (append-assoc (bracketed s ++ 63 ∷ bracketed t) (58 ∷ []) (bracketed u)))
 
--- what is written before the last operand of a binary operator, and of ?:
+-- what is written before the last operand of a binary operator
 pub record Signed (P : Pool) (p : ℕ) : Type 0 where
   pub named : Named (code P p % 16)
   pub is : leadOf (treeOf P p) ≡ bracketed (firstOf (treeOf P p)) ++ signBy (opOf (code P p % 16))
@@ -47,6 +46,15 @@ pub record Signed (P : Pool) (p : ℕ) : Type 0 where
 signed : {P : Pool} {p : ℕ} {s t : Tree} → Binary P p s t → Signed P p
 signed {s = s} {t = t} w = record { named = w .named; is = rw (w .is, w .named .is); whole = rw (w .is) (two-whole (w .named .op) s t) }
 
+-- and that operand, where it is the value
+record Low (P : Pool) (p : ℕ) : Type 0 where
+  signs : Signed P p
+  last : lastOf (treeOf P p) ≡ int (value P p)
+
+by-value : {P : Pool} {p : ℕ} {s : Tree} → Binary P p s (int (value P p)) → Low P p
+by-value w = record { signs = signed w; last = ap lastOf (w .is) }
+
+-- the same of ?:
 pub record Asked (P : Pool) (p : ℕ) : Type 0 where
   pub is : leadOf (treeOf P p) ≡ bracketed (firstOf (treeOf P p)) ++ 63 ∷ bracketed (secondOf (treeOf P p)) ++ 58 ∷ []
   whole : Whole (treeOf P p)
@@ -136,12 +144,16 @@ module _ {P : Pool} {p : ℕ} (s : Sound P p) where
       is : firstOf (treeOf P p) ≡ treeOf P (p - 1)
       is = by-test _ (ltb (code P p) 64) (λ e. ap firstOf (pick h (ltb-true _ 64 e))) (λ e. ap firstOf (value-op (ltb-false _ 64 e) l .is))
 
+  -- from x op b on, the first operand is at a field's place, and the last one at the place before
+  high : 79 < code P p → (firstOf (treeOf P p) ≡ treeOf P (field P p 0)) × (lastOf (treeOf P p) ≡ treeOf P (p - 1))
+  high h =
+      by-test _ (ltb (code P p) 96) (λ e. let w = op h (ltb-true _ 96 e) .is in (ap firstOf w, ap lastOf w)) (λ e.
+      by-test _ (ltb (code P p) 112)
+      (λ f. let w = choice (ltb-false _ 96 e) (ltb-true _ 112 f) in (ap firstOf w, ap lastOf w))
+      (λ f. let w = three (ltb-false _ 112 f) in (ap firstOf w, ap lastOf w)))
+
   pub first-field : {q : ℕ} → 79 < code P p → q ≡ field P p 0 → Operand P p (firstOf (treeOf P p)) (Node q)
-  first-field h = node-part is (first-in s h)
-    where
-      is : firstOf (treeOf P p) ≡ treeOf P (field P p 0)
-      is = by-test _ (ltb (code P p) 96) (λ e. ap firstOf (op h (ltb-true _ 96 e) .is)) (λ e.
-          by-test _ (ltb (code P p) 112) (λ f. ap firstOf (choice (ltb-false _ 96 e) (ltb-true _ 112 f))) (λ f. ap firstOf (three (ltb-false _ 112 f))))
+  first-field h = node-part (high h .0) (first-in s h)
 
   -- ?: at 49 and from 96 on
   either-three : {A : Type 0} → ternary (code P p) ≡ true → (code P p ≡ 49 → A) → (95 < code P p → A) → A
@@ -155,11 +167,7 @@ module _ {P : Pool} {p : ℕ} (s : Sound P p) where
   second-field h = node-part (ap secondOf (three h)) (second-in s h)
 
   pub last-before : 79 < code P p → Operand P p (lastOf (treeOf P p)) (Node (p - 1))
-  last-before h = node-part is (before-in s (omega arith)) refl
-    where
-      is : lastOf (treeOf P p) ≡ treeOf P (p - 1)
-      is = by-test _ (ltb (code P p) 96) (λ e. ap lastOf (op h (ltb-true _ 96 e) .is)) (λ e.
-          by-test _ (ltb (code P p) 112) (λ f. ap lastOf (choice (ltb-false _ 96 e) (ltb-true _ 112 f))) (λ f. ap lastOf (three (ltb-false _ 112 f))))
+  last-before h = node-part (high h .1) (before-in s (omega arith)) refl
 
   pub last-not : code P p ≡ 48 → Operand P p (lastOf (treeOf P p)) (Node (p - 1))
   last-not h = node-part (ap lastOf (negation h)) (before-in s (omega arith)) refl
@@ -176,15 +184,17 @@ module _ {P : Pool} {p : ℕ} (s : Sound P p) where
       let r : code P p % 16 < 2 = ltb-true (code P p % 16) 2 (rw g at (known-in s)) in
       absurd (omega arith))
 
+  -- up to b op v, the last operand of a binary operator is the value
+  low : 15 < code P p → code P p < 80 → (code P p ≡ 48 → ⊥) → (code P p ≡ 49 → ⊥) → Low P p
+  low h l f g =
+      by-test _ (ltb (code P p) 32) (λ e. by-value (n-op h (ltb-true _ 32 e))) (λ e.
+      by-test _ (ltb (code P p) 48) (λ d. by-value (rest-op (ltb-false _ 32 e) (ltb-true _ 48 d))) (λ d.
+      by-test _ (ltb (code P p) 64)
+      (λ b. absurd (g (only-pick (omega (arith, ltb-false (code P p) 48 d)) (ltb-true _ 64 b))))
+      (λ b. by-value (value-op (ltb-false _ 64 b) l))))
+
   pub last-value : 1 < code P p → code P p < 80 → (code P p ≡ 48 → ⊥) → (code P p ≡ 49 → ⊥) → Operand P p (lastOf (treeOf P p)) (Number (value P p))
-  last-value h l f g = number-part is refl
-    where
-      is : lastOf (treeOf P p) ≡ int (value P p)
-      is = by-test _ (ltb (code P p) 32) (λ e. ap lastOf (n-op (operator h) (ltb-true _ 32 e) .is)) (λ e.
-          by-test _ (ltb (code P p) 48) (λ d. ap lastOf (rest-op (ltb-false _ 32 e) (ltb-true _ 48 d) .is)) (λ d.
-          by-test _ (ltb (code P p) 64)
-          (λ b. absurd (g (only-pick (omega (arith, ltb-false (code P p) 48 d)) (ltb-true _ 64 b))))
-          (λ b. ap lastOf (value-op (ltb-false _ 64 b) l .is))))
+  last-value h l f g = number-part (low (operator h) l f g .last) refl
 
   -- what stands before the last operand
   pub lead-not : code P p ≡ 48 → leadOf (treeOf P p) ≡ 33 ∷ []
@@ -197,13 +207,9 @@ module _ {P : Pool} {p : ℕ} (s : Sound P p) where
 
   pub lead-sign : 15 < code P p → (code P p ≡ 48 → ⊥) → ternary (code P p) ≡ false → Signed P p
   lead-sign h f e =
-      by-test _ (ltb (code P p) 32) (λ d. signed (n-op h (ltb-true _ 32 d))) (λ d.
-      by-test _ (ltb (code P p) 48) (λ c. signed (rest-op (ltb-false _ 32 d) (ltb-true _ 48 c))) (λ c.
-      by-test _ (ltb (code P p) 64)
-      (λ b. absurd (not-three e (only-pick (omega (arith, ltb-false (code P p) 48 c)) (ltb-true _ 64 b))))
-      (λ b.
-      by-test _ (ltb (code P p) 80) (λ a. signed (value-op (ltb-false _ 64 b) (ltb-true _ 80 a))) (λ a.
-      signed (op (ltb-false _ 80 a) (two-low (code P p) e))))))
+      by-test _ (ltb (code P p) 80)
+      (λ a. low h (ltb-true _ 80 a) f (not-three e) .signs)
+      (λ a. signed (op (ltb-false _ 80 a) (two-low (code P p) e)))
 
   pub in-brackets : 1 < code P p → Whole (treeOf P p)
   in-brackets h =

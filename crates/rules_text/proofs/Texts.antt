@@ -1,22 +1,20 @@
 -- The text of a tree is put by putting its parts' texts one after the other.
 use Prim.Native.Nat.{ℕ, _+_, _*_, _%_, _<_}
-use mathlib.Core.Path.{_≡_, refl, sym, ap, _∙_}
+use mathlib.Core.Path.{_≡_, ap, _∙_}
 use mathlib.Core.Bool.{true}
-use mathlib.Core.List.{List, [], _∷_, _++_}
+use mathlib.Core.List.{List, [], _∷_}
 use native.Mathlib.Omega.{arith}
-use lib.Dec.{eqb}
-use borrow.Author.Tests.{ne-eqb, lt-ltb}
-use Rattle.rules.specs.Tree.{Tree, var, int, nay, bin, cond, rem}
+use Rattle.rules.specs.Tree.{Tree, var, int, bin, rem}
 use Rattle.rules.specs.Operator.{opOf}
-use Rattle.rules.specs.Pool.{Pool, code, value, leaf, treeOf}
+use Rattle.rules.specs.Pool.{Pool, code, value, treeOf}
 use Rattle.rules.specs.Sound.{Sound}
 use Rattle.rules.proofs.Trees.{tree-leaf}
 use Rattle.rules_text.specs.declared.Part.{Part}
-use Rattle.rules_text.specs.declared.Part.the-variants.{N, Number, Rest, Node}
+use Rattle.rules_text.specs.declared.Part.the-variants.{N, Number, Node}
 use Rattle.rules_text.specs.Bracketed.{decimal, bracketed}
 use Rattle.rules_text.specs.Private.{signBy, firstOf, secondOf, lastOf, leadOf, ternary, partTree, Held, depth, Operand, Puts}
 use Rattle.rules_text.proofs.Laid.{reworded, joined}
-use Rattle.rules_text.proofs.Nodes.{Signed, lead-not, lead-three, lead-sign, in-brackets}
+use Rattle.rules_text.proofs.Nodes.{Signed, lead-not, lead-three, in-brackets}
 
 -- n % m
 pub rest-put :

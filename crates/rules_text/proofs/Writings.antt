@@ -2,11 +2,11 @@
 use Prim.Native.Nat.{ℕ, _+_, _<_, _≤_}
 use mathlib.Core.Path.{_≡_, refl, sym, ap, _∙_}
 use mathlib.Core.Bool.{Bool, true, false, _&&_}
-use mathlib.Core.List.{List, [], _∷_, _++_}
+use mathlib.Core.List.{List, _++_}
 use native.Mathlib.Omega.{arith}
 use native.Mathlib.Nat.{zero-add}
 use lib.ListN.{length, take, drop}
-use lib.Seq.{sets, sets-eq, length-sets, length-take-le, paste, take-length, take-at}
+use lib.Seq.{sets-eq, length-sets, paste, take-at}
 use lib.Dec.{leb}
 use borrow.Author.Tests.{le-leb, lt-leb, leb-true, leb-false}
 use Rattle.text.proofs.Tests.{taken, left, by-test, and-none}
@@ -34,10 +34,7 @@ module _ {s old new : List ℕ} {n : ℕ} (w : Puts s 0 old new n) where
   pub long : length old ≡ 512 → n ≤ 512 → length new ≡ 512
   long k h = ap length (w .text (omega (arith, whole-text h))) ∙ (length-sets old 0 s ∙ k)
 
-  pub prefix : length old ≡ 512 → n ≤ 512 → length (take n new) ≡ n
-  prefix k h = length-take-le n new (omega (arith, long k h))
-
-  pub text-is : length old ≡ 512 → n ≤ 512 → take n new ≡ s
+  text-is : length old ≡ 512 → n ≤ 512 → take n new ≡ s
   text-is k h =
       let e : n ≡ length s = whole-text h in
       let d : new ≡ s ++ drop (0 + length s) old = w .text (omega arith) ∙ sets-eq s old 0 (omega arith) in
@@ -59,11 +56,10 @@ module _ {s old new : List ℕ} {n : ℕ} (w : Puts s 0 old new n) where
       let d : (leb (length s) 512 && leb (length s) room) ≡ true = rw (le-leb (length s) 512 (omega arith), le-leb (length s) room (omega arith)) in
       ap Length e ∙ sym (taken _ _ d)
 
-  -- what is copied to the front of a buffer then
-  pub pasted : (before : List ℕ) {t : List ℕ} → n ≤ 512 → t ≡ s → paste before 0 t (length t) ≡ s ++ drop n before
-  pasted before {t} h d =
-      let e : 0 + length t ≡ n = omega (arith, whole-text h, ap length d) in
-      ap (λ (l : List ℕ). l ++ drop (0 + length t) before) (take-length t ∙ d) ∙ ap (λ (i : ℕ). s ++ drop i before) e
+  -- its first n bytes copied to the front of a buffer
+  pub pasted : (before : List ℕ) → length old ≡ 512 → n ≤ 512 → paste before 0 new n ≡ s ++ drop n before
+  pasted before k h =
+      ap (λ (l : List ℕ). l ++ drop (0 + n) before) (text-is k h) ∙ ap (λ (i : ℕ). s ++ drop i before) (zero-add n)
 
 -- the answer, by the tree test
 module _ (P : Pool) (count root room : ℕ) where

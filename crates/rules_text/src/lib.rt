@@ -6,7 +6,7 @@ use rules::place;
 ghost use mathlib.Core.Path.{_≡_};
 ghost use mathlib.Core.Bool.{true};
 ghost use mathlib.Core.List.{[], _∷_};
-ghost use Prim.Native.Nat.{_<_, _≤_, _+_, _*_};
+ghost use Prim.Native.Nat.{_<_, _≤_};
 ghost use lib.ListN.{length, getD};
 ghost use lib.Seq.{paste};
 ghost use Rattle.rules.specs.Operator.{opOf, Named};
@@ -120,7 +120,8 @@ fn first<'a>(
 ) -> Part
     requires sound { ⌜ Sound (pool (now codes) (now places) (now values)) at ⌝ }
     requires more { ⌜ (15 < getD (now codes) at 0) × (getD (now codes) at 0 ≡ 48 → ⊥) ⌝ }
-    ensures { λ r. ⌜ Operand (pool (now (codes .entry)) (now (places .entry)) (now (values .entry))) at (firstOf (treeOf (pool (now (codes .entry)) (now (places .entry)) (now (values .entry))) at)) r ⌝ }
+    ensures { λ r. ⌜ Operand (pool (now (codes .entry)) (now (places .entry)) (now (values .entry)))
+        at (firstOf (treeOf (pool (now (codes .entry)) (now (places .entry)) (now (values .entry))) at)) r ⌝ }
 {
     let code = codes[at];
     if code < node::REST_OP {
@@ -144,7 +145,8 @@ fn second<'a>(
 ) -> Part
     requires sound { ⌜ Sound (pool (now codes) (now places) (now values)) at ⌝ }
     requires three { ⌜ ternary (getD (now codes) at 0) ≡ true ⌝ }
-    ensures { λ r. ⌜ Operand (pool (now (codes .entry)) (now (places .entry)) (now (values .entry))) at (secondOf (treeOf (pool (now (codes .entry)) (now (places .entry)) (now (values .entry))) at)) r ⌝ }
+    ensures { λ r. ⌜ Operand (pool (now (codes .entry)) (now (places .entry)) (now (values .entry)))
+        at (secondOf (treeOf (pool (now (codes .entry)) (now (places .entry)) (now (values .entry))) at)) r ⌝ }
 {
     if codes[at] < node::TERNARY {
         return Part::Number(values[at]);
@@ -161,7 +163,8 @@ fn last<'a>(
 ) -> Part
     requires sound { ⌜ Sound (pool (now codes) (now places) (now values)) at ⌝ }
     requires operator { ⌜ 1 < getD (now codes) at 0 ⌝ }
-    ensures { λ r. ⌜ Operand (pool (now (codes .entry)) (now (places .entry)) (now (values .entry))) at (lastOf (treeOf (pool (now (codes .entry)) (now (places .entry)) (now (values .entry))) at)) r ⌝ }
+    ensures { λ r. ⌜ Operand (pool (now (codes .entry)) (now (places .entry)) (now (values .entry)))
+        at (lastOf (treeOf (pool (now (codes .entry)) (now (places .entry)) (now (values .entry))) at)) r ⌝ }
 {
     let code = codes[at];
     if node::OP <= code {
@@ -186,7 +189,8 @@ fn put_part<'a>(
     at: usize,
 ) -> usize
     requires { ⌜ Held (pool (now codes) (now places) (now values)) part ⌝ }
-    ensures { λ r. ⌜ Puts (bracketed (partTree (pool (now (codes .entry)) (now (places .entry)) (now (values .entry))) part)) at (now (out .entry)) (now (out .exit)) r ⌝ }
+    ensures { λ r. ⌜ Puts (bracketed (partTree (pool (now (codes .entry)) (now (places .entry)) (now (values .entry))) part))
+        at (now (out .entry)) (now (out .exit)) r ⌝ }
 {
     match part {
         Part::N => put_byte(out, at, b'n'),
@@ -207,12 +211,14 @@ fn put_lead<'a>(
 ) -> usize
     requires sound { ⌜ Sound (pool (now codes) (now places) (now values)) p ⌝ }
     requires operator { ⌜ 1 < getD (now codes) p 0 ⌝ }
-    ensures { λ r. ⌜ Puts (leadOf (treeOf (pool (now (codes .entry)) (now (places .entry)) (now (values .entry))) p)) at (now (out .entry)) (now (out .exit)) r ⌝ }
+    ensures { λ r. ⌜ Puts (leadOf (treeOf (pool (now (codes .entry)) (now (places .entry)) (now (values .entry))) p))
+        at (now (out .entry)) (now (out .exit)) r ⌝ }
 {
     let code = codes[p];
     if code == node::NOT {
         return put_byte(out, at, b'!');
     }
+<<<<<<< HEAD
     let sign = put_part(
         codes,
         places,
@@ -231,6 +237,14 @@ fn put_lead<'a>(
             out,
             yes,
         );
+=======
+    let part = first(codes, places, values, p);
+    let sign = put_part(codes, places, values, part, out, at);
+    if is_ternary(code) {
+        let yes = put_byte(out, sign, b'?');
+        let part = second(codes, places, values, p);
+        let colon = put_part(codes, places, values, part, out, yes);
+>>>>>>> 33547fb4f95a556d76cfaa741713a0e627d76ec4
         return put_byte(out, colon, b':');
     }
     put_sign(out, sign, code % 16)
@@ -246,7 +260,8 @@ fn put_node<'a>(
     at: usize,
 ) -> usize
     requires { ⌜ Sound (pool (now codes) (now places) (now values)) p ⌝ }
-    ensures { λ r. ⌜ Puts (bracketed (treeOf (pool (now (codes .entry)) (now (places .entry)) (now (values .entry))) p)) at (now (out .entry)) (now (out .exit)) r ⌝ }
+    ensures { λ r. ⌜ Puts (bracketed (treeOf (pool (now (codes .entry)) (now (places .entry)) (now (values .entry))) p))
+        at (now (out .entry)) (now (out .exit)) r ⌝ }
 {
     let code = codes[p];
     if code == node::N {
@@ -257,6 +272,7 @@ fn put_node<'a>(
     }
     let lead = put_byte(out, at, b'(');
     let end = put_lead(codes, places, values, p, out, lead);
+<<<<<<< HEAD
     let close = put_part(
         codes,
         places,
@@ -265,16 +281,20 @@ fn put_node<'a>(
         out,
         end,
     );
+=======
+    let part = last(codes, places, values, p);
+    let close = put_part(codes, places, values, part, out, end);
+>>>>>>> 33547fb4f95a556d76cfaa741713a0e627d76ec4
     put_byte(out, close, b')')
 }
 
-// Copies a text to the front of a buffer.
-fn copy<'a>(text: &'a [u8], buffer: &mut [u8])
-    requires { ⌜ length (now text) ≤ length (now buffer) ⌝ }
-    ensures { λ _. ⌜ now (buffer .exit) ≡ paste (now (buffer .entry)) 0 (now (text .entry)) (length (now (text .entry))) ⌝ }
+// Copies the first n bytes of a text to the front of a buffer.
+fn copy<'a>(text: &'a [u8], n: usize, buffer: &mut [u8])
+    requires { ⌜ (n ≤ length (now text)) × (n ≤ length (now buffer)) ⌝ }
+    ensures { λ _. ⌜ now (buffer .exit) ≡ paste (now (buffer .entry)) 0 (now (text .entry)) n ⌝ }
 {
     let mut i = 0;
-    while i < text.len() {
+    while i < n {
         buffer[i] = text[i];
         i += 1;
     }
@@ -289,8 +309,10 @@ pub fn write<'a>(
     root: usize,
     buffer: &mut [u8],
 ) -> Writing
-    ensures answer { λ r. ⌜ r ≡ writingOf (pool (now (codes .entry)) (now (places .entry)) (now (values .entry))) count root (length (now (buffer .entry))) ⌝ }
-    ensures left { λ r. ⌜ now (buffer .exit) ≡ leftBy r (bracketed (treeOf (pool (now (codes .entry)) (now (places .entry)) (now (values .entry))) root)) (now (buffer .entry)) ⌝ }
+    ensures answer { λ r. ⌜ r ≡ writingOf (pool (now (codes .entry)) (now (places .entry)) (now (values .entry)))
+        count root (length (now (buffer .entry))) ⌝ }
+    ensures left { λ r. ⌜ now (buffer .exit) ≡ leftBy r
+        (bracketed (treeOf (pool (now (codes .entry)) (now (places .entry)) (now (values .entry))) root)) (now (buffer .entry)) ⌝ }
 {
     if !rules_tree::is_tree(codes, places, count, root) {
         return Writing::NoTree;
@@ -303,6 +325,6 @@ pub fn write<'a>(
     if buffer.len() < n {
         return Writing::TooLong;
     }
-    copy(&text[..n], buffer);
+    copy(&text, n, buffer);
     Writing::Length(n)
 }

@@ -381,6 +381,22 @@ impl<B: Bytes, S: Search> Catalog<B, S> {
         (form.number == 0).then_some(form.form)
     }
 
+    /// The plural rule as a text with brackets round every operator and no blanks. It is proved that both readings give that very rule back (the
+    /// Standard one alone, where the rule has `+`, `-`, `*` or `/`).
+    ///
+    /// # Errors
+    ///
+    /// [`Error::RuleTooLong`] exactly if that text has over 512 bytes.
+    pub fn rule_text(&self) -> Result<String, Error> {
+        let mut buffer = [0; 512];
+        let written = ffi::text(&self.record, &mut buffer);
+        Error::of(written.number)?;
+        Ok(buffer[..written.len]
+            .iter()
+            .map(|&b| char::from(b))
+            .collect())
+    }
+
     /// How often each form of the plural rule occurs for the counts of a span, of at most 1,000,000 counts.
     ///
     /// # Errors

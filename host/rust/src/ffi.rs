@@ -79,6 +79,13 @@ pub struct Form {
     pub form: u64,
 }
 
+/// How long the text of a rule is that was written, beside number 0.
+#[repr(C)]
+pub struct Written {
+    pub number: u32,
+    pub len: usize,
+}
+
 const _: () = assert!(size_of::<Head>() == 56);
 const _: () = assert!(size_of::<Record>() == 6712);
 const _: () = assert!(size_of::<Loaded>() == 64);
@@ -230,6 +237,14 @@ extern "C" {
         b: u64,
         figures: *mut [u64; 18],
     ) -> u32;
+    fn gettext_c_text(
+        head: *const Head,
+        codes: *const [u8; 512],
+        places: *const [u16; 1024],
+        values: *const [u64; 512],
+        buffer: *mut u8,
+        buffer_len: usize,
+    ) -> Written;
     fn gettext_c_is_utf8(text: *const u8, text_len: usize) -> u32;
     fn gettext_c_cost(file: *const u8, file_len: usize) -> u64;
 }
@@ -458,6 +473,21 @@ pub fn fits(r: &Record, k: u64) -> Fits {
 pub fn resolve(r: &Record, n: u64) -> Form {
     // SAFETY: the record's arrays live for the call and are only read.
     unsafe { gettext_c_resolve(&r.head, &r.codes, &r.places, &r.values, n) }
+}
+
+/// Writes the text of a record's rule.
+pub fn text(r: &Record, buffer: &mut [u8]) -> Written {
+    // SAFETY: the record's arrays live for the call and are only read; the buffer lives for the call, which writes it.
+    unsafe {
+        gettext_c_text(
+            &r.head,
+            &r.codes,
+            &r.places,
+            &r.values,
+            buffer.as_mut_ptr(),
+            buffer.len(),
+        )
+    }
 }
 
 pub fn span(r: &Record, a: u64, b: u64, figures: &mut [u64; 18]) -> u32 {

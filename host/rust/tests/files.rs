@@ -788,3 +788,34 @@ fn forms_over_a_span() {
         Err(Error::BadSpan)
     ));
 }
+
+#[test]
+fn the_text_of_a_rule() {
+    let file = g();
+    let with = |reading, rule: &str| {
+        ParseOptions::new()
+            .reading(reading)
+            .force_plural(rule)
+            .parse_slice(&file)
+            .unwrap()
+    };
+    assert_eq!(Catalog::empty().rule_text().unwrap(), "(n!=1)");
+    // the Russian rule: what each reading makes of it, said so that both read it
+    let russian =
+        "n%10==1 && n%100!=11 ? 0 : n%10>=2 && n%10<=4 && (n%100<10 || n%100>=20) ? 1 : 2";
+    for reading in [Reading::Shipped, Reading::Standard] {
+        let rule = with(reading, russian);
+        let text = rule.rule_text().unwrap();
+        for again in [Reading::Shipped, Reading::Standard] {
+            let read = with(again, &text);
+            assert_eq!(read.rule_text().unwrap(), text);
+            for n in (0..=120).chain([u64::MAX]) {
+                assert_eq!(read.resolve(n), rule.resolve(n), "{text} at {n}");
+            }
+        }
+    }
+    let halves = with(Reading::Standard, "(n+1)/2");
+    assert_eq!(halves.rule_text().unwrap(), "((n+1)/2)");
+    let deep = with(Reading::Standard, &("!".repeat(400) + "n"));
+    assert!(matches!(deep.rule_text(), Err(Error::RuleTooLong)));
+}

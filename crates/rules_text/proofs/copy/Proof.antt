@@ -13,10 +13,10 @@ use Rattle.rules_text.proofs.copy.Reads as reads
 use Rattle.rules_text.proofs.copy.Lts as lts
 
 abbrev Inv-loop : tie.InvT-loop
-Inv-loop text buffer₀ i₀ buffer i = (i ≤ length text) × (length buffer ≡ length buffer₀) × (buffer ≡ paste buffer₀ 0 text i)
+Inv-loop text n buffer₀ i₀ buffer i = (i ≤ n) × (length buffer ≡ length buffer₀) × (buffer ≡ paste buffer₀ 0 text i)
 
 abbrev μ-loop : tie.MeasureT-loop
-μ-loop text buffer₀ i₀ buffer i = length text - i
+μ-loop text n buffer₀ i₀ buffer i = n - i
 
 loop-holds : tie.Need-loop-holds Inv-loop μ-loop
 loop-holds c = let s : tie.Start Inv-loop μ-loop = c in (omega arith, refl, paste-zero (now (s .args .buffer)) 0 (now (s .args .text)))
@@ -34,7 +34,7 @@ loop-less : tie.Need-loop-less Inv-loop μ-loop
 loop-less c = search needs
 
 loop-again : tie.Need-loop-again Inv-loop μ-loop
-loop-again c = let s : tie.Start Inv-loop μ-loop = c .before .before .before in let d = copied (now (s .args .buffer)) (now (s .args .text)) _ (c .before .before .loop .inv .2) (c .before .before .loop .inv .1) (omega (arith, s .pre)) (c .before .loop-test .taken) in (omega arith, d .0, d .1)
+loop-again c = let s : tie.Start Inv-loop μ-loop = c .before .before .before in let d = copied (now (s .args .buffer)) (now (s .args .text)) (c .before .before .loop .i) (c .before .before .loop .inv .2) (c .before .before .loop .inv .1) (omega (arith, s .pre)) (omega (arith, s .pre)) in (omega arith, d .0, d .1)
 
 same-length : tie.Need-same-length Inv-loop μ-loop
 same-length c = search needs

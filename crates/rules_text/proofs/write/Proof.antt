@@ -3,12 +3,11 @@
 use mathlib.Core.Path.{refl, sym, _∙_}
 use native.Mathlib.Omega.{arith}
 use lib.ListN.{length}
-use lib.Seq.{length-take-le}
 use denote.Ref.{now}
 use borrow.Author.Tests.{not-true, not-false}
 use Rattle.rules.specs.Pool.{Pool, pool}
 use Rattle.rules.proofs.Trees.{sound, told}
-use Rattle.rules_text.proofs.Writings.{too-long, no-room, fits, no-tree, a-tree, long, prefix, text-is, pasted}
+use Rattle.rules_text.proofs.Writings.{too-long, no-room, fits, no-tree, a-tree, long, pasted}
 use borrow.Author.Needs.{needs}
 use Rattle.rules_text.proofs.write.Statement.{statement}
 use Rattle.rules_text.proofs.write.Tie as tie
@@ -36,20 +35,17 @@ returns-2 c = let s : tie.Start = c .before .before .before .before .before .bef
 returns-3 : tie.Need-returns-3
 returns-3 c = let s : tie.Start = c .before .before .before .before .before .before .before in (a-tree (P s) (s .args .count) (s .args .root) (length (now (s .args .buffer))) (told (P s) (s .args .count) (s .args .root) (c .before .before .before .before .before .is-tree .ensures) (not-false _ (c .before .before .before .before .if1 .left))) (no-room (c .before .before .put-node .ensures) _ (c .before .if2 .left) (c .if3 .taken)), refl)
 
-array-share-prefix-text : tie.Need-array-share-prefix-text
-array-share-prefix-text c = omega (arith, long (c .before .before .put-node .ensures) refl (c .before .if2 .left), c .before .if2 .left)
-
 slice-aggregate-copy : tie.Need-slice-aggregate-copy
-slice-aggregate-copy c = sym (length-take-le _ _ (omega (arith, long (c .before .before .before .put-node .ensures) refl (c .before .before .if2 .left), c .before .before .if2 .left)))
+slice-aggregate-copy c = sym (long (c .before .before .before .put-node .ensures) refl (c .before .before .if2 .left))
 
 copy-requires : tie.Need-copy-requires
-copy-requires c κs = let s : tie.Start = c .before .before .before .before .before .before .before .before .before in omega (arith, prefix (c .before .before .before .before .put-node .ensures) refl (c .before .before .before .if2 .left), c .before .before .if3 .left)
+copy-requires c κs = (omega (arith, long (c .before .before .before .before .put-node .ensures) refl (c .before .before .before .if2 .left), c .before .before .before .if2 .left), omega (arith, c .before .before .if3 .left))
 
 same-length : tie.Need-same-length
 same-length c = search needs
 
 returns-4 : tie.Need-returns-4
-returns-4 c = let s : tie.Start = c .before .before .before .before .before .before .before .before .before .before .before .before in (a-tree (P s) (s .args .count) (s .args .root) (length (now (s .args .buffer))) (told (P s) (s .args .count) (s .args .root) (c .before .before .before .before .before .before .before .before .before .before .is-tree .ensures) (not-false _ (c .before .before .before .before .before .before .before .before .before .if1 .left))) (fits (c .before .before .before .before .before .before .before .put-node .ensures) _ (c .before .before .before .before .before .before .if2 .left) (c .before .before .before .before .before .if3 .left)), c .before .before .copy .ensures ∙ pasted (c .before .before .before .before .before .before .before .put-node .ensures) (now (s .args .buffer)) (c .before .before .before .before .before .before .if2 .left) (text-is (c .before .before .before .before .before .before .before .put-node .ensures) refl (c .before .before .before .before .before .before .if2 .left)))
+returns-4 c = let s : tie.Start = c .before .before .before .before .before .before .before .before .before .before .before .before in (a-tree (P s) (s .args .count) (s .args .root) (length (now (s .args .buffer))) (told (P s) (s .args .count) (s .args .root) (c .before .before .before .before .before .before .before .before .before .before .is-tree .ensures) (not-false _ (c .before .before .before .before .before .before .before .before .before .if1 .left))) (fits (c .before .before .before .before .before .before .before .put-node .ensures) _ (c .before .before .before .before .before .before .if2 .left) (c .before .before .before .before .before .if3 .left)), c .before .before .copy .ensures ∙ pasted (c .before .before .before .before .before .before .before .put-node .ensures) (now (s .args .buffer)) refl (c .before .before .before .before .before .before .if2 .left))
 
 pub write-spec : {M : Type 1} → statement M
 write-spec =
@@ -60,7 +56,6 @@ write-spec =
     put-node-requires
     returns-2
     returns-3
-    array-share-prefix-text
     slice-aggregate-copy
     copy-requires
     same-length
