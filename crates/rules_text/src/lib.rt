@@ -218,33 +218,12 @@ fn put_lead<'a>(
     if code == node::NOT {
         return put_byte(out, at, b'!');
     }
-<<<<<<< HEAD
-    let sign = put_part(
-        codes,
-        places,
-        values,
-        first(codes, places, values, p),
-        out,
-        at,
-    );
-    if is_ternary(code) {
-        let yes = put_byte(out, sign, b'?');
-        let colon = put_part(
-            codes,
-            places,
-            values,
-            second(codes, places, values, p),
-            out,
-            yes,
-        );
-=======
     let part = first(codes, places, values, p);
     let sign = put_part(codes, places, values, part, out, at);
     if is_ternary(code) {
         let yes = put_byte(out, sign, b'?');
         let part = second(codes, places, values, p);
         let colon = put_part(codes, places, values, part, out, yes);
->>>>>>> 33547fb4f95a556d76cfaa741713a0e627d76ec4
         return put_byte(out, colon, b':');
     }
     put_sign(out, sign, code % 16)
@@ -272,19 +251,8 @@ fn put_node<'a>(
     }
     let lead = put_byte(out, at, b'(');
     let end = put_lead(codes, places, values, p, out, lead);
-<<<<<<< HEAD
-    let close = put_part(
-        codes,
-        places,
-        values,
-        last(codes, places, values, p),
-        out,
-        end,
-    );
-=======
     let part = last(codes, places, values, p);
     let close = put_part(codes, places, values, part, out, end);
->>>>>>> 33547fb4f95a556d76cfaa741713a0e627d76ec4
     put_byte(out, close, b')')
 }
 
