@@ -10,7 +10,7 @@ use lib.ListN.{length, getD, take}
 use lib.Dec.{ltb, eqb}
 use Rattle.rules.specs.Tree.{Tree, var, int, nay, bin, cond, Op, rem}
 use Rattle.rules.specs.Operator.{opOf}
-use Rattle.rules.specs.Pool.{Pool, code, field, value, joined, leaf, one, two, build, below, node, treeAt, treeOf}
+use Rattle.rules.specs.Pool.{Pool, code, field, value, joined, leaf, one, two, build, below, treeAt, treeOf}
 use Rattle.rules_text.specs.Bracketed.{bracketed}
 use Rattle.rules_text.specs.Writing.{writingOf, leftBy}
 use Rattle.rules_text.specs.declared.Writing.the-variants.{Length}

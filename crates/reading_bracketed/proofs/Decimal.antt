@@ -1,13 +1,13 @@
 -- A number written in decimal is read back: its digits, and the number that a run of digits is. Assumes nothing.
 use Prim.Native.Nat.{ℕ, zero, suc, _+_, _-_, _*_, _/_, _%_, _<_, _≤_, _^_}
-use mathlib.Core.Path.{_≡_, refl, ap, _∙_}
+use mathlib.Core.Path.{_≡_, refl, _∙_}
 use mathlib.Core.Bool.{true}
 use mathlib.Core.List.{List, [], _∷_, _++_}
 use native.Mathlib.Omega.{arith}
-use native.Mathlib.Nat.{div-add-mod, mod-lt, pow-suc}
+use native.Mathlib.Nat.{mod-lt, pow-suc}
 use lib.ListN.{length, length-append}
 use lib.Dec.{ltb}
-use borrow.Author.Tests.{ltb-true, ltb-false, lt-ltb, le-ltb, le-leb, ne-eqb}
+use borrow.Author.Tests.{ltb-true, ltb-false, lt-ltb, le-leb, ne-eqb}
 use Rattle.text.proofs.Tests.{by-test, taken, left}
 use Rattle.text_digits.specs.declared.Number.the-variants.{Whole}
 use Rattle.text_digits.specs.Digits.{digit, digitsFrom, integer}
