@@ -56,9 +56,9 @@ static void loads_and_refusals(void)
     f[36] = 1;
     CHECK(gr_load(f, 48, NULL, &r) == GR_OK);
     CHECK(r.head.length == 48 && r.head.count == 1 && r.head.originals == 28 && r.head.translations == 36);
-    CHECK(r.head.big == 0 && r.head.nodes == 3 && r.head.root == 2);
+    CHECK(r.head.big == 0 && r.head.nodes == 1 && r.head.root == 0);
     CHECK(gr_load(f, 47, NULL, &r) == GR_EOF);
-    CHECK(r.head.length == 0 && r.head.count == 0 && r.head.nodes == 3 && r.head.root == 2);
+    CHECK(r.head.length == 0 && r.head.count == 0 && r.head.nodes == 1 && r.head.root == 0);
     CHECK(gr_load(NULL, 0, NULL, &r) == GR_EOF);
     CHECK(gr_load(f, 48, with("", GR_STANDARD), &r) == GR_PLURAL_PARSING);
     CHECK(gr_load(f, 48, with("+7", GR_STANDARD), &r) == GR_PLURAL_PARSING);
@@ -209,7 +209,7 @@ static void rest(void)
     uint8_t *g = copy(50);
     gr_record r;
     gr_empty(&r);
-    CHECK(r.head.count == 0 && r.head.length == 0 && r.head.nodes == 3);
+    CHECK(r.head.count == 0 && r.head.length == 0 && r.head.nodes == 1);
     CHECK(is(gr_gettext(NULL, 0, &r, "a"), 0, "a"));
     CHECK(is(gr_ngettext(NULL, 0, &r, "a", "as", 2), 0, "as"));
     CHECK(is(gr_gettext(g, 50, &r, "a"), GR_BAD_RECORD, "a"));
