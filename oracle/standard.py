@@ -101,7 +101,7 @@ class Port:
 
 # A reader of C's grammar by ranks; a tree is "n", a number or a tuple with its operator.
 
-RANKS = {"||": 1, "&&": 2, "==": 3, "!=": 3, "<": 4, ">": 4, "<=": 4, ">=": 4, "%": 5}
+RANKS = {"||": 1, "&&": 2, "==": 3, "!=": 3, "<": 4, ">": 4, "<=": 4, ">=": 4, "+": 5, "-": 5, "*": 6, "/": 6, "%": 6}
 
 
 class Refused(Exception):
@@ -125,7 +125,7 @@ def tokens(rule):
         elif rule[i : i + 2] in ("||", "&&", "==", "!=", "<=", ">="):
             found.append(rule[i : i + 2])
             i += 2
-        elif sign in "n<>%!?:()":
+        elif sign in "n<>%!?:()+-*/":
             found.append(sign)
             i += 1
         else:
@@ -176,6 +176,10 @@ def prefix(rest):
     raise Refused
 
 
+# what a value was before it wrapped: c2py's numbers have no bound
+wrapped = []
+
+
 def value(tree, n):
     if tree == "n":
         return n
@@ -197,6 +201,13 @@ def value(tree, n):
         return None
     if kind == "%":
         return first % second if second else None
+    if kind == "/":
+        return first // second if second else None
+    if kind in "+-*":
+        whole = {"+": first + second, "-": first - second, "*": first * second}[kind]
+        if not 0 <= whole <= TOP:
+            wrapped.append(whole)
+        return whole % (TOP + 1)
     return int(
         {
             "&&": second != 0,
@@ -249,15 +260,15 @@ def at(f, n):
 # Rules.
 
 KNOWN = [
-    "0", "n != 1", "n>1", "n==1 ? 0 : n==2 ? 1 : 2", "n%10==1 && n%100!=11 ? 0 : n != 0 ? 1 : 2",
+    "0", "n != 1", "n>1", "(n+1)/2", "n%10*3", "10-n%3-2", "10/(n%3+1)", "n==1 ? 0 : n==2 ? 1 : 2", "n%10==1 && n%100!=11 ? 0 : n != 0 ? 1 : 2",
     "n==1 ? 0 : (n==0 || (n%100 > 0 && n%100 < 20)) ? 1 : 2",
     "n%10==1 && n%100!=11 ? 0 : n%10>=2 && n%10<=4 && (n%100<10 || n%100>=20) ? 1 : 2",
     "(n==1) ? 0 : (n>=2 && n<=4) ? 1 : 2", "n%100==1 ? 0 : n%100==2 ? 1 : n%100==3 || n%100==4 ? 2 : 3",
     "n==0 ? 0 : n==1 ? 1 : n==2 ? 2 : n%100>=3 && n%100<=10 ? 3 : n%100>=11 ? 4 : 5",
 ]  # fmt: skip
-SOUP = "n n n 0 1 2 10 01 18446744073709551615 18446744073709551616 && || ? : ? : >= <= > < == != % ! ( ) ( )".split() + [" ", "\t", "=", "&"]
-OTHERS = ["+", "-", "*", "/", "\r", "n1", "nn", "1n", "\x0b", "x", "|"]
-LEVELS = [["||"], ["&&"], ["==", "!="], ["<", ">", "<=", ">="], ["%"]]
+SOUP = "n n n 0 1 2 10 01 18446744073709551615 18446744073709551616 && || ? : ? : >= <= > < == != % + - * / ! ( ) ( )".split() + [" ", "\t", "=", "&"]
+OTHERS = ["\r", "n1", "nn", "1n", "\x0b", "x", "|"]
+LEVELS = [["||"], ["&&"], ["==", "!="], ["<", ">", "<=", ">="], ["+", "-"], ["*", "/", "%"]]
 
 
 def blank(rng):
@@ -268,11 +279,11 @@ def grammar(rng, rank, depth):
     if depth == 0 or rng.random() < 0.25:
         leaf = "n" if rng.random() < 0.5 else str(rng.choice([0, 1, 2, 3, 4, 5, 10, 11, 100, "007", 2**32, TOP, rng.randrange(30)]))
         return blank(rng) + leaf + blank(rng)
-    own = rng.choice([0, 0, 1, 2, 3, 4, 5, 6])
+    own = rng.choice([0, 0, 1, 2, 3, 4, 5, 6, 7])
     if own == 0:
         text = grammar(rng, 1, depth - 1) + "?" + grammar(rng, 0, depth - 1) + ":" + grammar(rng, 0, depth - 1)
-    elif own == 6:
-        text = "!" + grammar(rng, 6, depth - 1)
+    elif own == 7:
+        text = "!" + grammar(rng, 7, depth - 1)
     else:
         text = grammar(rng, own, depth - 1) + rng.choice(LEVELS[own - 1]) + grammar(rng, own + 1, depth - 1)
     return "(" + text + ")" if own < rank or rng.random() < 0.1 else text
@@ -287,7 +298,7 @@ def made(rng):
     rule = rng.choice(KNOWN)
     for _ in range(rng.randrange(3)):
         place = rng.randrange(len(rule) + 1)
-        rule = rule[:place] + rng.choice(list("n01()?:&|!=<>% ") + [""]) + rule[place + rng.randrange(2) :]
+        rule = rule[:place] + rng.choice(list("n01()?:&|!=<>%+-*/ ") + [""]) + rule[place + rng.randrange(2) :]
     if rng.random() < 0.02:
         rule = rng.choice(["(" * 25 + "n" + ")" * 25, "!" * 30 + "n", " " * 520 + "n", "0" * 511 + "1", "0" * 512 + "1", "\r\n" + rule])
     return rule
@@ -325,18 +336,19 @@ def compare(port, rule, tally):
             return None
         if own == 8:
             return tally.explain("rule over 512 bytes: 8, c2py reads up to 1000", rule)
-        if any(sign in rule for sign in "+-*/"):
-            return tally.explain("+ - * /: 6, c2py reads them", rule)
         if any(len(run) >= 20 for run in "".join(c if c.isdigit() else " " for c in rule).split()):
             return tally.explain("integer above 2^64-1: 6, c2py reads it", rule)
         return tally.fault("6, c2py reads it (%s)" % why, rule)
     tally.accepted += 1
     ours = [port.value(loaded, n) for n in COUNTS]
     tally.values += len(COUNTS)
+    wrapped.clear()
     if ours != [value(tree, n) for n in COUNTS]:
         return tally.fault("values %s" % ours, rule)
     if f is not None and ours == [at(f, n) for n in COUNTS]:
         return None
+    if wrapped:
+        return tally.explain("numbers that wrap: c2py's have no bound", rule)
     # what c2py does differently with this text, and the same rule said so that it does not
     if f is None and why == "refused" and rule.strip(SIX) != rule.strip(" \t"):
         return tally.explain("white space at the ends other than blanks: trimmed, c2py refuses", rule)

@@ -292,7 +292,7 @@ static void texts(void)
     memset(buffer, '~', sizeof buffer);
     CHECK(gr_load(g, size, with("n%10==1 ? 0 : !n", GR_STANDARD), &r) == GR_OK);
     gr_written w = gr_rule_text(&r, buffer, 512);
-    CHECK(w.number == GR_OK && w.len == 19 && memcmp(buffer, "(((n%10)==1)?0:(!n))~", 21) == 0);
+    CHECK(w.number == GR_OK && w.len == 20 && memcmp(buffer, "(((n%10)==1)?0:(!n))~", 21) == 0);
     CHECK(gr_load(g, size, with("(((n%10)==1)?0:(!n))", GR_SHIPPED), &r) == GR_OK && gr_resolve(&r, 11).form == 0 && gr_resolve(&r, 0).form == 1);
     memset(buffer, '~', sizeof buffer);
     w = gr_rule_text(&r, buffer, 19);

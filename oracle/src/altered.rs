@@ -31,6 +31,26 @@ fn remainder(x: (u64, u64), y: (u64, u64)) -> Option<(u64, u64)> {
     if y.0 == 0 { None } else { Some((0, x.1.min(y.1 - 1))) }
 }
 
+// Ends without bound, kept where they fit 64 bits; else every number.
+fn kept(low: u128, high: u128) -> (u64, u64) {
+    match (u64::try_from(low), u64::try_from(high)) {
+        (Ok(low), Ok(high)) => (low, high),
+        _ => (0, u64::MAX),
+    }
+}
+
+fn calculated(op: usize, x: (u64, u64), y: (u64, u64)) -> Option<(u64, u64)> {
+    let (k, h, l, m) = (x.0 as u128, x.1 as u128, y.0 as u128, y.1 as u128);
+    match op {
+        9 if l == 0 => None,
+        9 => Some(((k / m) as u64, (h / l) as u64)),
+        10 => Some(kept(k + l, h + m)),
+        11 if k < m => Some((0, u64::MAX)),
+        11 => Some(kept(k - m, h - l)),
+        _ => Some(kept(k * l, h * m)),
+    }
+}
+
 // The lowest and the highest value; none where the rule is not rated.
 fn range(r: &Record, p: usize) -> Option<(u64, u64)> {
     let node = r.node(p)?;
@@ -45,6 +65,7 @@ fn range(r: &Record, p: usize) -> Option<(u64, u64)> {
         Node::Leaf(_) => Some(under[0]),
         Node::Ternary(..) => Some((under[1].0.min(under[2].0), under[1].1.max(under[2].1))),
         Node::Op(8, ..) => remainder(under[0], under[1]),
+        Node::Op(op @ 9.., ..) => calculated(op, under[0], under[1]),
         Node::Op(..) | Node::Not(_) => Some((0, 1)),
     }
 }

@@ -249,12 +249,12 @@ impl Record {
         Some(match code {
             0 => Node::Leaf(Part::N),
             1 => Node::Leaf(value),
-            16..=24 => Node::Op(op, Part::N, value),
-            32..=40 => Node::Op(op, Part::Rest(field(0) as u64), value),
+            16..=28 => Node::Op(op, Part::N, value),
+            32..=44 => Node::Op(op, Part::Rest(field(0) as u64), value),
             48 => Node::Not(before),
             49 => Node::Ternary(before, value, small),
-            64..=72 => Node::Op(op, before, value),
-            80..=88 => Node::Op(op, x, before),
+            64..=76 => Node::Op(op, before, value),
+            80..=92 => Node::Op(op, x, before),
             96 => Node::Ternary(x, value, before),
             112 => Node::Ternary(x, y, before),
             _ => return None,
@@ -263,8 +263,11 @@ impl Record {
 
     // The tree as the crate's own Debug writes it.
     pub fn write_tree(&self, at: usize, out: &mut String) {
-        const NAMES: [&str; 9] =
-            ["Equal", "NotEqual", "GreaterOrEqual", "SmallerOrEqual", "Greater", "Smaller", "And", "Or", "Modulo"];
+        // the last four are no operators of the crate's
+        const NAMES: [&str; 13] = [
+            "Equal", "NotEqual", "GreaterOrEqual", "SmallerOrEqual", "Greater", "Smaller", "And", "Or", "Modulo", "Divide",
+            "Plus", "Minus", "Times",
+        ];
         let (name, parts) = match self.node(at).expect("a known code") {
             Node::Leaf(part) => return self.write_part(part, out),
             Node::Not(part) => ("Not(", vec![part]),
@@ -294,7 +297,8 @@ impl Record {
         }
     }
 
-    // The tree's value by the crate's `resolve`; none where it takes a remainder by zero.
+    // The tree's value by the crate's `resolve`; none where it takes a remainder or a
+    // quotient by zero.
     pub fn resolve(&self, at: usize, n: u64) -> Option<u64> {
         let value = |part| match part {
             Part::N => Some(n),
@@ -317,7 +321,11 @@ impl Record {
             5 => (value(x)? < value(y)?) as u64,
             6 => (value(x)? != 0 && value(y)? != 0) as u64,
             7 => (value(x)? != 0 || value(y)? != 0) as u64,
-            _ => return value(x)?.checked_rem(value(y)?),
+            8 => return value(x)?.checked_rem(value(y)?),
+            9 => return value(x)?.checked_div(value(y)?),
+            10 => value(x)?.wrapping_add(value(y)?),
+            11 => value(x)?.wrapping_sub(value(y)?),
+            _ => value(x)?.wrapping_mul(value(y)?),
         })
     }
 }

@@ -1,5 +1,5 @@
-// The text of a rule, with round brackets around every operator and its operands. Both readings of that text give the rule back
-// (crate `reading_bracketed`).
+// The text of a rule, with round brackets around every operator and its operands. The Standard reading of that text gives the rule back, and so does
+// the Shipped one if the rule has no + - * / (crate `reading_bracketed`).
 use rules::field;
 use rules::node;
 use rules::place;
