@@ -31,7 +31,7 @@ fileF =
 abbrev pub fileG : List ℕ
 fileG = set fileF 36 3 ++ 0x63 ∷ 0 ∷ []
 
--- document 01's number, 0 for a file that is accepted, and the count
+-- the number, 0 for a file that is accepted, and the count
 abbrev pub seen : Answer → ℕ × ℕ
 seen (accepted t r) = (0, t .count)
 seen (refused e) = (numberOf e, 0)

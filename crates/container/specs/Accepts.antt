@@ -1,4 +1,4 @@
--- What a load accepts, as facts about the file, without order. Document 01, "Loading, in order". proofs/Exactly.antt shows that `load`
+-- What a load accepts, as facts about the file, without order. SPEC 3. proofs/Exactly.antt shows that `load`
 -- accepts a file exactly if these hold, with these tables and this rule (`accepted-exactly`).
 use Prim.Native.Nat.{ℕ, _<_, _≤_}
 use mathlib.Core.Path.{_≡_}

@@ -1,4 +1,4 @@
--- Loading a catalog. Document 01, "Loading, in order", 1 and 4 to 6. A stage hands on its value or the load ends with its refusal;
+-- Loading a catalog. SPEC 3.1 and 3.4 to 3.6. A stage hands on its value or the load ends with its refusal;
 -- what is handed on from stage to stage is the rule so far.
 use Prim.Native.Nat.{ℕ, zero, suc}
 use mathlib.Core.Bool.{false}

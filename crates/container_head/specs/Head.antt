@@ -1,4 +1,4 @@
--- The head of a file. GNU gettext manual, 10.3, "The Format of GNU MO Files"; document 01, "Loading, in order", 2 and 3.
+-- The head of a file. GNU gettext manual, 10.3, "The Format of GNU MO Files"; SPEC 3.2 and 3.3.
 use Prim.Native.Nat.{ℕ}
 use mathlib.Core.Bool.{Bool, true, false, _&&_}
 use mathlib.Core.List.{List}

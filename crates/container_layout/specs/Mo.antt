@@ -1,4 +1,4 @@
--- The layout of an MO file. GNU gettext manual, 10.3, "The Format of GNU MO Files", and document 01, "Loading, in order", 4 and 5.
+-- The layout of an MO file. GNU gettext manual, 10.3, "The Format of GNU MO Files", and SPEC 3.4 and 3.5.
 -- A file is a list of bytes. A part of it is told by its place: where it starts, and how long it is. Sums are taken without bound.
 use Prim.Native.Nat.{ℕ, zero, suc, _+_, _*_, _-_}
 use mathlib.Core.Bool.{Bool, true, false}

@@ -1,4 +1,4 @@
--- What loading accepts of an entry, as facts without order. Document 01, "Loading, in order", 4 and 5. proofs/Accepts.antt ties it to `readAt`.
+-- What loading accepts of an entry, as facts without order. SPEC 3.4 and 3.5. proofs/Accepts.antt ties it to `readAt`.
 use Prim.Native.Nat.{ℕ}
 use mathlib.Core.Path.{_≡_}
 use mathlib.Core.Bool.{true}

@@ -1,4 +1,4 @@
--- The entries of a file. Document 01, "Loading, in order", 4 and 5. A stage hands on its value or its refusal.
+-- The entries of a file. SPEC 3.4 and 3.5. A stage hands on its value or its refusal.
 use Prim.Native.Nat.{ℕ}
 use mathlib.Core.Bool.{true, false}
 use mathlib.Core.List.{List, [], _∷_}

@@ -1,4 +1,4 @@
--- Which rule a load goes on with. Document 01, "Loading, in order", 1 and 6: the forced rule, the header's, or the default. Of the options
+-- Which rule a load goes on with. SPEC 3.1 and 3.6: the forced rule, the header's, or the default. Of the options
 -- those of a header count: whether a rule is forced, and whether UTF-8 is.
 use Prim.Native.Nat.{ℕ, zero, suc}
 use mathlib.Core.Bool.{Bool, true, false, _||_}

@@ -1,4 +1,4 @@
--- What a record says to a lookup. Document 01, "The record": the tables and the rule as nodes; and what the four lookups answer.
+-- What a record says to a lookup. SPEC 8: the tables and the rule as nodes; and what the four lookups answer.
 use Prim.Native.Nat.{ℕ}
 use mathlib.Core.List.{List}
 use Rattle.rules.specs.Pool.{Pool, pool}

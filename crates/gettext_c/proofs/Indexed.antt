@@ -1,4 +1,4 @@
--- The demands over the lookups in lent slots. Document 02, request d: demand 3 is asked where the slots are those that `gettext_c_index` left
+-- The demands over the lookups in lent slots. SPEC 10: demand 3 is asked where the slots are those that `gettext_c_index` left
 -- for this record and these bytes; in any slots an answer is the form's own segment of an entry with the key, or the fallback. Names are
 -- those of Demands.antt; `lent` are the slots before building, `slots` after it, and n its number. Assumes nothing.
 use Prim.{tt}

@@ -1,5 +1,5 @@
--- The header of a catalog: which part of it is the charset label, and which the plural rule. Document 01, "Header";
--- document 02 c: names, values and rules are trimmed of White_Space, names inside Plural-Forms of the six bytes.
+-- The header of a catalog: which part of it is the charset label, and which the plural rule. SPEC 5;
+-- SPEC 1 and 5: names, values and rules are trimmed of White_Space, names inside Plural-Forms of the six bytes.
 -- A part is told by its place: where it starts, and how long it is.
 use Prim.Native.Nat.{ℕ, _+_}
 use Prim.Native.Char.{code}

@@ -1,4 +1,4 @@
--- The fields of a header. Document 01, "Header". A part is told by its place: where it starts, and how long it is. The white space of
+-- The fields of a header. SPEC 5. A part is told by its place: where it starts, and how long it is. The white space of
 -- which names and values are trimmed is a parameter.
 use Prim.Native.Nat.{ℕ, _+_}
 use Prim.Native.Char.{code}

@@ -1,4 +1,4 @@
--- What the layers below take and answer, as numbers. Document 01, "Numbers returned" and "The record".
+-- What the layers below take and answer, as numbers. SPEC 2 and 8.
 use Prim.Native.Nat.{ℕ, _-_, _%_}
 use mathlib.Core.Bool.{Bool, true, false, not}
 use mathlib.Core.List.{List, [], _∷_}

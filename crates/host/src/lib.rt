@@ -15,7 +15,7 @@ ghost use Prim.Native.Nat.{_<_, _%_};
 ghost use Rattle.rules.specs.Value.{truth};
 ghost use Rattle.host.specs.Host.{isSet, readingOf, optionsOf, headOf, tablesIn, loadedOf, ownFor, fallback, answerOf, ratingOf, fitsOf, valueOf, writtenOf};
 
-// How a load went: document 01's number, and the head of the record, that of the empty catalog where the number is not 0. A head is the
+// How a load went: the number, and the head of the record, that of the empty catalog where the number is not 0. A head is the
 // file's length, how many entries it has, where the originals' table and the translations' lie, whether (not 0) the highest byte of a word
 // comes first, how many nodes the rule has, and its root. The rule's nodes are arrays beside it: codes, operand places, values.
 #[repr(C)]

@@ -1,4 +1,4 @@
--- Lookups in lent slots. Document 02, request d. In the slots that building left for this record and these bytes a lookup answers as the scan
+-- Lookups in lent slots. SPEC 10. In the slots that building left for this record and these bytes a lookup answers as the scan
 -- does; in any slots an answer is the form's own segment of an entry with the key, and the number is the scan's, but for 12 where too few
 -- are lent. Assumes nothing.
 use Prim.Native.Nat.{ℕ, _<_, _≤_}

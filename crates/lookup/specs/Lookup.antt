@@ -1,4 +1,4 @@
--- Why a lookup answers as it does. Document 01, "Numbers returned" and "The record", and the orders of document 02, d and i. The entry with the key
+-- Why a lookup answers as it does. SPEC 2, 8, 9 and 10. The entry with the key
 -- is given, so that the same is said of every way to find it.
 use Prim.Native.Nat.{ℕ}
 use mathlib.Core.Bool.{true, false}

@@ -165,7 +165,7 @@ pub fn nfind_indexed<'a, 'b>(
     by_slots(file, value, sought)
 }
 
-// Document 01's number, or document 02's.
+// The number, or document 02's.
 pub fn number_of(reason: Reason) -> u32
     ensures { λ r. ⌜ r ≡ number reason ⌝ }
 {

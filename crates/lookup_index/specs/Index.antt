@@ -1,4 +1,4 @@
--- The index of a catalog, and a lookup in slots that are lent. Document 02, request d.
+-- The index of a catalog, and a lookup in slots that are lent. SPEC 10.
 use Prim.Native.Nat.{ℕ, zero, suc}
 use mathlib.Core.Bool.{true, false}
 use mathlib.Core.List.{List, _++_}

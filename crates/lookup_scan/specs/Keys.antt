@@ -1,4 +1,4 @@
--- The key of a lookup, and the last entry that has it. Document 01, "Loading, in order" (keys; the last entry with an equal key counts).
+-- The key of a lookup, and the last entry that has it. SPEC 3.7 (keys; the last entry with an equal key counts).
 use Prim.Native.Nat.{ℕ, zero, suc}
 use mathlib.Core.Bool.{Bool, true, false}
 use mathlib.Core.List.{List, _∷_, _++_}

@@ -1,4 +1,4 @@
--- Slots, as document 02, request d has them. A slot is a number: 0 is empty, and i + 1 is entry i. What the entries are like is left open:
+-- Slots, as SPEC 10 has them. A slot is a number: 0 is empty, and i + 1 is entry i. What the entries are like is left open:
 -- `k i` is the key of entry i, or nothing where i is no entry.
 use Prim.Native.Nat.{ℕ, zero, suc, _+_, _%_}
 use mathlib.Core.Bool.{Bool, true, false}

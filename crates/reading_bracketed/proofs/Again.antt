@@ -1,4 +1,4 @@
--- Document 02, n: "the tool that writes the text from a loaded rule". What it writes of a record, read again in a reading that has the
+-- SPEC 14: "the tool that writes the text from a loaded rule". What it writes of a record, read again in a reading that has the
 -- rule's operators, is the rule of the record. Assumes nothing.
 use Prim.Native.Nat.{ℕ, zero, suc, _-_, _%_, _<_, _^_}
 use mathlib.Core.Path.{_≡_, ap, _∙_}

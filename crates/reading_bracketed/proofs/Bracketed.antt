@@ -1,4 +1,4 @@
--- Document 02, n: "Both readings of that text give this very tree." Assumes nothing.
+-- SPEC 14: "Both readings of that text give this very tree." Assumes nothing.
 use Prim.Native.Nat.{_≤_}
 use mathlib.Core.Path.{_≡_, ap, _∙_}
 use lib.ListN.{length}

@@ -1,4 +1,4 @@
--- The trees that either reading gives back. Document 02, n: "any tree of 01's operators"; b: "The Standard reading gains binary + - * /",
+-- The trees that either reading gives back. SPEC 14: "any tree of 01's operators"; b: "The Standard reading gains binary + - * /",
 -- "Shipped does not change".
 use Rattle.rules.specs.Tree.{Tree, var, int, nay, bin, cond, Op, cmp, calc, and, or, rem, div}
 use Rattle.reading_rule.specs.declared.Reading.{Reading}

@@ -1,7 +1,7 @@
 -- C's grammar of a plural rule, over tokens: which lists of tokens are a text of which level, and what tree each has.
--- GNU gettext manual 11.2.6 (an expression in C's syntax); document 01, "Two readings of a rule", Standard: ?: groups right and has the
+-- GNU gettext manual 11.2.6 (an expression in C's syntax); SPEC 6.2: ?: groups right and has the
 -- lowest rank, its middle is a whole rule; then ||, &&, == and !=, the four orderings, + and -, then * / %, then !; the binary operators group
--- left (document 02, b, for + - * /).
+-- left (SPEC 6, for + - * /).
 use Prim.Native.Nat.{ℕ, suc, _<_, _^_}
 use Prim.Native.Char.{code}
 use mathlib.Core.Path.{_≡_}

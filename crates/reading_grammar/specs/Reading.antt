@@ -1,4 +1,4 @@
--- The Standard reading as a function (document 01, "Two readings of a rule"): the tree of a text, or none. It finds exactly what the grammar
+-- The Standard reading as a function (SPEC 6): the tree of a text, or none. It finds exactly what the grammar
 -- derives (proofs/Complete.antt, `agrees`). Fuel bounds the steps.
 use Prim.Native.Nat.{ℕ, zero, suc, _+_, _*_, _^_}
 use Prim.Native.Char.{code}

@@ -1,4 +1,4 @@
--- The tokens of a text of bytes. Document 01, "Two readings of a rule": blanks are space and tab; integers are digits only, and decimal
+-- The tokens of a text of bytes. SPEC 6: blanks are space and tab; integers are digits only, and decimal
 -- even after a leading zero. The longest operator comes first, as in C, and each run of digits is one integer.
 use Prim.Native.Nat.{ℕ, _+_, _-_, _*_}
 use Prim.Native.Char.{code}

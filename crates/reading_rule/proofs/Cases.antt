@@ -18,7 +18,7 @@ use Rattle.refusal.specs.declared.Error.the-variants as error
 use Rattle.reading_rule.specs.declared.Reading.the-variants.{Shipped, Standard}
 use Rattle.reading_rule.specs.Plurals.{Parse, rule, norule, made, tested, parsed}
 
--- the value at a count, or document 01's number
+-- the value at a count, or the number
 pub data Answer : Type 0 where
   form : ℕ → Answer
   number : ℕ → Answer

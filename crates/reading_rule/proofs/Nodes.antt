@@ -1,5 +1,5 @@
 -- Every node takes a byte of the rule's text of its own, so that a rule that is read, which has at most 512 bytes, has at most 512 nodes: a
--- pool of 512 nodes is never full. Document 02, k. Assumes nothing.
+-- pool of 512 nodes is never full. SPEC 2. Assumes nothing.
 use Prim.Native.Nat.{ℕ, _≤_}
 use mathlib.Core.Path.{_≡_, refl}
 use mathlib.Core.List.{List}

@@ -1,4 +1,4 @@
--- Document 01, "Two readings of a rule"; "Numbers returned"; document 02 c: what a text, trimmed of White_Space, is as a plural rule in a
+-- SPEC 6 and 2; SPEC 1 and 5: what a text, trimmed of White_Space, is as a plural rule in a
 -- reading, a tree or a refusal, and what the caller's arrays then hold.
 use Prim.Native.Nat.{ℕ}
 use mathlib.Core.Path.{_≡_}

@@ -1,4 +1,4 @@
--- What a function inside `index_of` promises: a step of its loop. Document 01, "Two readings of a rule".
+-- What a function inside `index_of` promises: a step of its loop. SPEC 6.
 use Prim.Native.Nat.{ℕ, _+_}
 use mathlib.Core.Bool.{true, false}
 use mathlib.Core.List.{List}

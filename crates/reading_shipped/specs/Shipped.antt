@@ -1,4 +1,4 @@
--- The Shipped reading: `Ast::parse` of the Rust's plurals.rs, transcribed. Document 01, "Two readings of a rule".
+-- The Shipped reading: `Ast::parse` of the Rust's plurals.rs, transcribed. SPEC 6.
 -- Each definition names the Rust's function; `parse` stands for the reading of a piece.
 use Prim.Native.Nat.{ℕ, zero, suc, _+_, _-_}
 use mathlib.Core.Bool.{true, false}

@@ -1,4 +1,4 @@
--- What the functions inside promise: the rows of the tables of operators, and the rest of an integer. Document 01, "Two readings of a rule".
+-- What the functions inside promise: the rows of the tables of operators, and the rest of an integer. SPEC 6.
 use Prim.Native.Nat.{ℕ, _+_}
 use mathlib.Core.List.{List}
 use mathlib.Core.Option.{Option, none, some}

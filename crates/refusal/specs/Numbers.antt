@@ -1,4 +1,4 @@
--- The numbers of document 01, "Numbers returned", and 12 of document 02, d. 0 is none of them; 9 is not given (document 02, k).
+-- The numbers of SPEC 2. 0 is none of them; 9 is not given (SPEC 2).
 use Prim.Native.Nat.{ℕ}
 use Rattle.refusal.specs.declared.Error.{Error}
 use Rattle.refusal.specs.declared.Error.the-variants.{Eof, BadMagic, DecodingError, MalformedMetadata, MisplacedMetadata, PluralParsing, UnknownEncoding, RuleTooLong, ZeroModulus, BadRecord, IndexRoom, BadSpan}

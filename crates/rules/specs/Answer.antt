@@ -1,4 +1,4 @@
--- What a pool answers: the value of its rule at a count, its range, and whether it fits a number. Document 01, "Range table" and
+-- What a pool answers: the value of its rule at a count, its range, and whether it fits a number. SPEC 7 and
 -- "The record": a pool that is no tree has none of these.
 use Prim.Native.Nat.{ℕ}
 use mathlib.Core.Bool.{Bool, true, false}

@@ -9,7 +9,7 @@
 --
 -- with v the value, m the first field, x and y the trees at the places that the fields name, b the tree at the place before, and op the
 -- operator of number i. A reader writes 0, 1, 48, 80 + i and 112, a node for each n, integer and operator; packing folds leaves into the
--- others. Document 01, "The record": what makes nodes no tree, a code that is not among these first.
+-- others. SPEC 8: what makes nodes no tree, a code that is not among these first.
 use Prim.Native.Nat.{ℕ, zero, suc, _+_, _*_, _-_, _%_, _/_}
 use mathlib.Core.Bool.{Bool, true, false, not, _&&_}
 use mathlib.Core.List.{List, [], _∷_, _++_}

@@ -1,4 +1,4 @@
--- The range of a rule. SPEC 7 (document 02, b, has the rows of + - * /); a node with any unrated operand is unrated, reached or not.
+-- The range of a rule. SPEC 7 (SPEC 6, has the rows of + - * /); a node with any unrated operand is unrated, reached or not.
 use Prim.Native.Nat.{ℕ, _+_, _-_, _*_, _/_, _^_, min, max}
 use mathlib.Core.Bool.{Bool, true, false}
 use lib.Dec.{leb, ltb, eqb}

@@ -1,4 +1,4 @@
--- What reading a text as a rule leaves in lent arrays, in either reading. Document 01, "Two readings of a rule": where the text has a
+-- What reading a text as a rule leaves in lent arrays, in either reading. SPEC 6: where the text has a
 -- tree, the tree's nodes from place 0 on, as many as the answer says and no more than the text has bytes; else there is no reading, and
 -- nothing is said of the arrays.
 use Prim.Native.Nat.{ℕ, _≤_}

@@ -1,5 +1,5 @@
 -- The tree of a plural rule: n, an integer, !, a binary operator, ?:. SPEC 6; the operators are those of the Rust's `Operator` and C's
--- + - * / (document 02, b). The six comparisons are one constructor, and so are the three that wrap.
+-- + - * / (SPEC 6.4). The six comparisons are one constructor, and so are the three that wrap.
 use Prim.Native.Nat.{ℕ}
 
 pub data Cmp : Type 0 where

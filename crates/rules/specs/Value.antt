@@ -1,4 +1,4 @@
--- The value of a rule at a count. Document 01, "Two readings of a rule": evaluation is lazy in &&, || and ?:, works on 64-bit
+-- The value of a rule at a count. SPEC 6: evaluation is lazy in &&, || and ?:, works on 64-bit
 -- unsigned numbers, truths are 0 and 1, and the left operand comes first. Sums, differences and products wrap, as in C; a remainder or a quotient by zero is
 -- reported as such, after both operands.
 use Prim.Native.Nat.{ℕ, _+_, _-_, _*_, _/_, _%_, _^_}

@@ -1,4 +1,4 @@
--- How often each form occurs over a span of counts. Document 02, j: "report how many fall on each form 0 to 15, how many above, and how many
+-- How often each form occurs over a span of counts. SPEC 13: "report how many fall on each form 0 to 15, how many above, and how many
 -- meet a zero remainder". 18 figures, in this order.
 use Prim.Native.Nat.{ℕ, zero, suc, _+_, _-_}
 use mathlib.Core.Bool.{Bool, true, false, _&&_}

@@ -1,4 +1,4 @@
--- What writing the text of a rule into a buffer answers, and what it leaves there. Document 02, n: "after 11, a text over 512 bytes or
+-- What writing the text of a rule into a buffer answers, and what it leaves there. SPEC 14: "after 11, a text over 512 bytes or
 -- longer than the buffer answers 8, and both leave it unchanged; otherwise the answer has the length and the rest of the buffer stays".
 use Prim.Native.Nat.{ℕ}
 use mathlib.Core.Bool.{true, false, _&&_}

@@ -1,4 +1,4 @@
--- Pools as an altered record may have them, computed from the definition of the test. Document 01, "The record": five reasons why nodes
+-- Pools as an altered record may have them, computed from the definition of the test. SPEC 8: five reasons why nodes
 -- are no tree, tested at every place below the count; what a code does not use is not looked at. Assumes nothing.
 use Prim.Native.Nat.{ℕ, zero, suc}
 use mathlib.Core.Path.{_≡_, refl}

@@ -1,4 +1,4 @@
--- What the functions of the tree test promise one another: document 01, "The record", place by place.
+-- What the functions of the tree test promise one another: SPEC 8, place by place.
 use Prim.Native.Nat.{ℕ, _+_, _<_, _≤_}
 use mathlib.Core.Path.{_≡_}
 use mathlib.Core.Bool.{Bool, true, false, not, _&&_}

@@ -1,4 +1,4 @@
--- An integer of the Shipped reading. The Rust's plurals.rs: `u64::from_str_radix`. Document 01, "Two readings of a rule".
+-- An integer of the Shipped reading. The Rust's plurals.rs: `u64::from_str_radix`. SPEC 6.
 use Prim.Native.Nat.{ℕ, _+_, _-_, _*_, _^_}
 use mathlib.Core.Bool.{Bool, true, false, _&&_}
 use mathlib.Core.List.{List, [], _∷_}

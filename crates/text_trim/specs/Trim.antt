@@ -1,4 +1,4 @@
--- Trimming. Document 02 c: header names, values and rules are trimmed of the 25 characters of Unicode's White_Space. Document 01, "Header":
+-- Trimming. SPEC 1 and 5: header names, values and rules are trimmed of the 25 characters of Unicode's White_Space. SPEC 5:
 -- names inside Plural-Forms are trimmed of the six bytes 9 to 13 and 32, a charset label of 9, 10, 12, 13 and 32.
 -- Characters stand in a text by their encodings (RFC 3629, section 3); the definitions take any list of encodings, and what lies between
 -- need not be UTF-8.
