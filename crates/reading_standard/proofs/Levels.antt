@@ -1,5 +1,5 @@
 -- The steps of a level, over plain values: each is one equation of the reading (grammar's proofs/Steps.antt), with the nodes beside it.
-use Prim.Native.Nat.{ℕ, suc, _+_, _-_, _<_, _≤_}
+use Prim.Native.Nat.{ℕ, zero, suc, _+_, _-_, _<_, _≤_}
 use Prim.Native.Char.{code}
 use mathlib.Core.Path.{_≡_, refl, ap, _∙_}
 use mathlib.Core.Bool.{false, _&&_, and-false}
@@ -13,14 +13,20 @@ use Rattle.rules.specs.Pool.{Pool}
 use Rattle.rules.specs.Store.{size, store, push, nodeCode}
 use Rattle.reading_grammar.specs.Grammar.{Token, sign, number, mark, rank, loosest, full}
 use Rattle.reading_grammar.specs.Tokens.{tokens}
-use Rattle.reading_grammar.specs.Reading.{got, andThen, past, Level, More}
+use Rattle.reading_grammar.specs.Reading.{got, bad, andThen, past, Level, More}
 use Rattle.reading_tokens.proofs.Nexts.{Step, NotNext}
 use Rattle.reading_grammar.proofs.Steps.{level-zero, level-suc, more-nil, more-number, more-sign, more-mark}
 use Rattle.reading_standard.specs.declared.Part.{Part}
 use Rattle.reading_standard.specs.declared.Part.the-variants.{Got, Bad}
-use Rattle.reading_standard.specs.Wrote.{Done, Before, LevelWrote, MoreWrote, PrefixWrote}
-use Rattle.reading_standard.proofs.Taken.{level-taken, level-refused, stands}
+use Rattle.reading_standard.specs.Wrote.{Done, Before, Climbs, LevelWrote, MoreWrote, PrefixWrote}
+use Rattle.reading_standard.proofs.Taken.{answered, level-taken, level-refused, stands}
 use Rattle.reading_grammar.proofs.Choice.{left-if}
+
+levels-bad : (d j : ℕ) (t : List Token) → Level j t ≡ bad → Level (d + j) t ≡ bad
+levels-bad zero j t e = let z : zero + j ≡ j = omega arith in rw z e
+levels-bad (suc d) j t e =
+    let z : suc d + j ≡ suc (d + j) = omega arith in
+    rw (z, level-suc (d + j) t, levels-bad d j t e) refl
 
 module _ {s : List ℕ} {l at k : ℕ} {P Q : Pool} where
   pub by-prefix : {x : Part} → l ≡ 0 → PrefixWrote s at k P Q x → LevelWrote l s at k P Q x
@@ -29,10 +35,27 @@ module _ {s : List ℕ} {l at k : ℕ} {P Q : Pool} where
   pub by-bad : {j : ℕ} {R : Pool} → l ≡ suc j → LevelWrote j s at k P R Bad → LevelWrote l s at k P Q Bad
   by-bad {j} e w = record { read = rw (e, level-suc j (tokens (drop at s)), level-refused w) refl }
 
+  -- what a tighter level refuses, every looser one does
+  pub by-bad-below : {j : ℕ} {R : Pool} → j ≤ l → LevelWrote j s at k P R Bad → LevelWrote l s at k P Q Bad
+  by-bad-below {j} h w =
+      let z : l - j + j ≡ l = omega arith in
+      record { read = rw (← z, levels-bad (l - j) j (tokens (drop at s)) (level-refused w)) refl }
+
   pub by-more : {j m q : ℕ} {R : Pool} {x : Part} → l ≡ suc j → LevelWrote j s at k P R (Got m q) → MoreWrote j s q m R Q x → LevelWrote l s at k P Q x
   by-more {j} e w v =
       let g = level-taken w in
       record { read = rw (e, level-suc j (tokens (drop at s)), g .is) (v .read (g .t) at k P (stands g)) }
+
+-- a turn of the loop over the levels, and its end
+pub climbed : {s : List ℕ} {at k m q j u p : ℕ} {O Q R : Pool} {x : Part} {v e : ℕ} → Climbs s at k O m q j Q u p → MoreWrote j s p u Q R x → x ≡ Got v e
+    → Climbs s at k O m q (j + 1) R v e
+climbed {j = j} c w g =
+    record {
+      goes = λ P b. let z : j + 1 ≡ suc j = omega arith in answered (by-more z (c .goes P b) w) g;
+    }
+
+pub at-level : {s : List ℕ} {l j at k : ℕ} {P Q : Pool} {x : Part} → j ≡ l → LevelWrote j s at k P Q x → LevelWrote l s at k P Q x
+at-level e w = rw (← e) w
 
 -- two trees, or three, that stand after one another, and the node over them
 joined : (op : Op) (at e h k m w q c x : ℕ) (t u : Tree) (O P R S : Pool) → Before t h at k m O P → at < e → w ≡ m + size u → R ≡ store u m P → e + size u ≤ q

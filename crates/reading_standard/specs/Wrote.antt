@@ -46,3 +46,7 @@ pub record PrefixWrote (s : List ℕ) (at k : ℕ) (P Q : Pool) (x : Part) : Typ
 -- whatever tree stands before m
 pub record MoreWrote (j : ℕ) (s : List ℕ) (at m : ℕ) (P Q : Pool) (x : Part) : Type 0 where
   pub read : (t : Tree) (h k : ℕ) (O : Pool) → Before t h at k m O P → Wrote (More j t (tokens (drop at s))) s h k O Q x
+
+-- in a loop: the arrays O and the places m, q of level 0 have become Q and u, p, those of level j
+pub record Climbs (s : List ℕ) (at k : ℕ) (O : Pool) (m q j : ℕ) (Q : Pool) (u p : ℕ) : Type 0 where
+  pub goes : (P : Pool) → LevelWrote 0 s at k P O (Got m q) → LevelWrote j s at k P Q (Got u p)

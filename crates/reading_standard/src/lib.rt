@@ -51,15 +51,24 @@ fn read_level(
         (pool (now (codes .entry)) (now (places .entry)) (now (values .entry)))
         (pool (now (codes .exit)) (now (places .exit)) (now (values .exit))) r ⌝ }
 {
-    if l == 0 {
-        return read_prefix(s, codes, places, values, at, k);
-    }
-    let j = l - 1;
-    let first = read_level(s, codes, places, values, j, at, k);
-    let Part::Got(m, q) = first else {
+    // the levels in a loop, and not each in a call of its own: a bracket then takes two frames of the stack and not eight
+    let first = read_prefix(s, codes, places, values, at, k);
+    let Part::Got(u, p) = first else {
         return Part::Bad;
     };
-    read_more(s, codes, places, values, j, q, m)
+    let mut m = u;
+    let mut q = p;
+    let mut j = 0;
+    while j < l {
+        let next = read_more(s, codes, places, values, j, q, m);
+        let Part::Got(v, e) = next else {
+            return Part::Bad;
+        };
+        m = v;
+        q = e;
+        j += 1;
+    }
+    Part::Got(m, q)
 }
 
 // A left operand is stored below place m: the operators of rank j + 1 after it, each with its right operand.

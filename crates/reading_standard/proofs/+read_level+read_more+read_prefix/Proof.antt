@@ -26,14 +26,20 @@ pub +read-level+read-more+read-prefix-spec : {M : Type 1} → statement M
     (read-level-facts.Claimed t)
     (read-level-at t)
     read-level.Post
+    read-level-facts.Inv
+    read-level-facts.μ
     (read-level-facts.read-prefix-requires t)
-    (read-level-facts.returns t)
-    (read-level-facts.sub-j t)
-    (read-level-facts.read-level-requires t)
     (read-level-facts.enum-known-first t)
     (read-level-facts.enum-told t)
-    (read-level-facts.returns-2 t)
+    (read-level-facts.returns t)
+    (read-level-facts.loop-holds t)
     (read-level-facts.read-more-requires t)
+    (read-level-facts.enum-known-next t)
+    (read-level-facts.enum-told-2 t)
+    (read-level-facts.returns-2 t)
+    (read-level-facts.add-j t)
+    (read-level-facts.loop-less t)
+    (read-level-facts.loop-again t)
     (read-level-facts.returns-3 t))
     (λ t. read-more-lts.spec
     (read-more-facts.Claimed t)
