@@ -253,6 +253,7 @@ impl Oracle {
                 }
             }
         }
-        self.altered_slots(rng, file, &ours, &keys).or_else(told)
+        self.altered_slots(rng, file, &ours, &keys).or_else(told)?;
+        self.written(rng, ours.catalog, tree).or_else(told)
     }
 }

@@ -9,6 +9,7 @@ mod rattle;
 mod rng;
 mod sample;
 mod shrink;
+mod written;
 
 use compare::{hex, Depth, Oracle, Stats, CASE, QUIET};
 use make::COUNTS;
@@ -23,6 +24,7 @@ const USAGE: &str = "usage: oracle run --seed S --cases N [--from I] [--threads 
        oracle utf8 [--up-to K] [--threads T]
        oracle spaced --seed S --cases N [--threads T]
        oracle altered --seed S --cases N [--threads T]
+       oracle bracketed --nodes K [--threads T]
        oracle real DIR.. [--keys K] [--threads T]
        oracle sample";
 
@@ -335,6 +337,16 @@ fn main() {
             };
             let (stats, differ) = many(threads, 0, cases, |oracle, i| oracle.altered(&mut Rng::new(seed, i)));
             summary(&format!("altered records, seed {seed}"), &stats, differ, start)
+        }
+        Some("bracketed") => {
+            let Some(nodes) = value(&words, "--nodes") else {
+                eprintln!("{USAGE}");
+                exit(2)
+            };
+            let rules = written::trees(nodes as usize);
+            let (stats, differ) =
+                many(threads, 0, rules.len() as u64, |oracle, i| oracle.read_again(&mut Rng::new(5, i), &rules[i as usize], true));
+            summary(&format!("bracketed, all trees of up to {nodes} nodes"), &stats, differ, start)
         }
         Some("rules") => {
             let Some(longest) = value(&words, "--exhaustive") else {

@@ -769,6 +769,10 @@ pub fn file(rng: &mut Rng) -> Vec<u8> {
     }
 }
 
+// A catalog without an entry.
+pub const NO_ENTRY: [u8; 28] =
+    [0xde, 0x12, 0x04, 0x95, 0, 0, 0, 0, 0, 0, 0, 0, 28, 0, 0, 0, 28, 0, 0, 0, 0, 0, 0, 0, 28, 0, 0, 0];
+
 pub const COUNTS: [u64; 36] = [
     0,
     1,

@@ -137,6 +137,15 @@ impl Lent {
     }
 }
 
+// Which forms occur over a span, and the rule's text; with the record where it lies.
+pub fn span(record: &Record, a: u64, b: u64, figures: &mut [u64; 18]) -> u32 {
+    ffi::span(record, a, b, figures)
+}
+
+pub fn text(record: &Record, buffer: &mut [u8]) -> ffi::Written {
+    ffi::text(record, buffer)
+}
+
 impl<'a> Ours<'a> {
     // No lookup has this number: the one in the slots answers another thing than the scan.
     fn both(&self, scan: Answer, indexed: impl Fn(Option<&[u32]>) -> Answer) -> Answer {
