@@ -239,26 +239,38 @@ fn crossover() -> BTreeMap<&'static str, usize> {
     most
 }
 
-/// The tree at a place of a rule, written out with every operator in brackets: so the crate reads that very tree.
-fn bracketed(r: &ffi::Record, at: usize) -> String {
-    const SIGNS: [&str; 9] = ["==", "!=", ">=", "<=", ">", "<", "&&", "||", "%"];
-    let (code, value) = (r.codes[at], r.values[at]);
-    let sign = SIGNS[(code % 16) as usize % 9];
-    let before = || bracketed(r, at - 1);
-    let first = || bracketed(r, r.places[2 * at] as usize);
-    let small = r.places[2 * at];
-    match code {
-        0 => "n".into(),
-        1 => format!("{value}"),
-        16..=31 => format!("(n{sign}{value})"),
-        32..=47 => format!("((n%{small}){sign}{value})"),
-        48 => format!("(!{})", before()),
-        49 => format!("({}?{value}:{small})", before()),
-        64..=79 => format!("({}{sign}{value})", before()),
-        80..=95 => format!("({}{sign}{})", first(), before()),
-        96 => format!("({}?{value}:{})", first(), before()),
-        _ => format!("({}?{}:{})", first(), bracketed(r, r.places[2 * at + 1] as usize), before()),
-    }
+// A rule with an operator that the crate has not, beside the crate's shortest rule.
+fn halves(rows: &mut Vec<Row>) {
+    let (_, file) = generated(0, "n != 1");
+    let options = gettext_rattle::ParseOptions::new().reading(gettext_rattle::Reading::Standard);
+    let ours = options.force_plural("(n+1)/2").parse_slice(&file).expect("it loads");
+    let other = gettext::Catalog::parse(&file[..]).expect("it loads");
+    let each = race(
+        400,
+        [
+            &mut || (0..1000).for_each(|n| keep(ours.ngettext(black_box("no such message"), "many", n))),
+            &mut || (0..1000).for_each(|n| keep(other.ngettext(black_box("no such message"), "many", n))),
+        ],
+    );
+    let [mine, theirs] = each.map(|seconds| seconds / 1000.0 * 1e9);
+    rows.push(faster("plural rule", "(n+1)/2, Standard, beside the crate's n != 1".into(), "ns", mine, theirs, "crate"));
+}
+
+// The forms of a million counts, beside the crate asked for each count with an id that it has not.
+fn span(rows: &mut Vec<Row>) {
+    let (_, file) = generated(0, RUSSIAN);
+    let ours = gettext_rattle::Catalog::parse_slice(&file).expect("it loads");
+    let (_, same) = generated(0, &ours.rule_text().expect("it has at most 512 bytes"));
+    let other = gettext::Catalog::parse(&same[..]).expect("it loads");
+    let each = race(
+        5,
+        [
+            &mut || assert_eq!(black_box(&ours).forms_over(0..=999_999).expect("a span").zero(), 0),
+            &mut || (0..1_000_000).for_each(|n| keep(other.ngettext(black_box("no such message"), "many", n))),
+        ],
+    );
+    let [mine, theirs] = each.map(|seconds| seconds / 1e6 * 1e9);
+    rows.push(faster("form counts", "Russian, Shipped, 1000000 counts, a count".into(), "ns", mine, theirs, "crate"));
 }
 
 /// A plural lookup in a catalog that has the header alone: almost all of it is the rule. The crate is given the same tree; its own reading of
@@ -273,11 +285,12 @@ fn evaluation(rows: &mut Vec<Row>) {
             let ours = gettext_rattle::ParseOptions::new().reading(reading).parse_slice(&file).expect("it loads");
             let mut record = ffi::blank();
             ffi::load(&file, None, reading == Standard, false, &mut record);
-            let (_, same) = generated(0, &bracketed(&record, record.head.root));
+            let text = ours.rule_text().expect("it has at most 512 bytes");
+            let (_, same) = generated(0, &text);
             let other = gettext::Catalog::parse(&same[..]).expect("it loads");
             let id = "no such message";
             let (_, forms) = generated(1, rule);
-            let (_, same_forms) = generated(1, &bracketed(&record, record.head.root));
+            let (_, same_forms) = generated(1, &text);
             let (message, _) = generated(1, rule);
             let mine = gettext_rattle::ParseOptions::new().reading(reading).parse_slice(&forms).expect("it loads");
             let theirs = gettext::Catalog::parse(&same_forms[..]).expect("it loads");
@@ -300,6 +313,8 @@ fn evaluation(rows: &mut Vec<Row>) {
             }
         }
     }
+    halves(rows);
+    span(rows);
 }
 
 fn utf8(rows: &mut Vec<Row>, files: &[Vec<u8>]) {
