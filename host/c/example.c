@@ -54,5 +54,13 @@ int main(int argc, char **argv)
     }
     gr_text may = gr_pgettext_indexed(file, size, &catalog, slots, 1024, "month", "May");
     printf("%.*s\n", (int)may.len, may.text);
+
+    /* the rule as both readings take it, and how often its first form occurs */
+    char text[512];
+    gr_written rule = gr_rule_text(&catalog, text, sizeof text);
+    uint64_t forms[GR_FIGURES];
+    if (rule.number == GR_OK && gr_span(&catalog, 0, 9, forms) == GR_OK) {
+        printf("%.*s names form 0 for %llu of the counts 0 to 9\n", (int)rule.len, text, (unsigned long long)forms[0]);
+    }
     return 0;
 }

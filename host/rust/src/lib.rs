@@ -23,6 +23,8 @@
 //! let file = std::fs::read(path)?;
 //! let catalog = ParseOptions::new().reading(Reading::Standard).parse_slice(&file)?;
 //! assert_eq!(catalog.rating(), Some((0, 1)));
+//! assert_eq!(catalog.rule_text()?, "(n!=1)");
+//! assert_eq!(catalog.forms_over(0..=9)?.of(0), Some(1));
 //! # Ok(())
 //! # }
 //! ```
