@@ -15,7 +15,7 @@ use Rattle.header_fields.specs.Promise.{endOf}
 use Rattle.header_fields.specs.declared.Place.{Place}
 use Rattle.header_fields.specs.declared.Place.the-variants.{At, Absent}
 use Rattle.header.specs.Header.{within, field, charset, plural, metadata}
-use Rattle.header.specs.Promise.{partOf}
+use Rattle.header.specs.Private.{partOf}
 use Rattle.header.specs.declared.Sought.{Sought}
 use Rattle.header.specs.declared.Sought.the-variants.{Charset, Plural}
 use Rattle.header.specs.declared.Metadata.{Metadata}

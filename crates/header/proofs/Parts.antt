@@ -19,7 +19,7 @@ use Rattle.header_fields.specs.declared.Place.{Place}
 use Rattle.header_fields.specs.declared.Place.the-variants.{At}
 use Rattle.header_fields.proofs.Places.{named-end, cut-end}
 use Rattle.header.specs.Header.{within, field, upTo, labelAfter, charset, plural, metadata}
-use Rattle.header.specs.Promise.{partOf}
+use Rattle.header.specs.Private.{partOf}
 use Rattle.header.specs.declared.Sought.{Sought}
 use Rattle.header.specs.declared.Sought.the-variants.{Charset, Plural}
 use Rattle.header.specs.declared.Metadata.the-variants.{Malformed, Fields}

@@ -5,7 +5,7 @@ ghost use Prim.Native.Nat.{_≤_};
 ghost use lib.ListN.{length};
 ghost use Rattle.header_fields.specs.Promise.{endOf};
 ghost use Rattle.header.specs.Header.{within, charset, plural, metadata, utf8Label};
-ghost use Rattle.header.specs.Promise.{partOf};
+ghost use Rattle.header.specs.Private.{partOf};
 use header_fields::Place;
 use text::Found;
 use text_trim::Set;

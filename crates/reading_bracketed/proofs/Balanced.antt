@@ -11,7 +11,7 @@ use borrow.Author.Tests.{ne-eqb, eq-eqb, lt-ltb, ltb-true}
 use Rattle.text.specs.Bytes.{all}
 use Rattle.text.proofs.Tests.{never, taken, left, by-test, and-left, and-right}
 use Rattle.reading_scan.specs.Scan.{stands, counted, indexFrom, indexOf, deeper, further, endFrom}
-use Rattle.reading_scan.specs.Promise.{matched}
+use Rattle.reading_scan.specs.Private.{matched}
 use Rattle.reading_scan.proofs.Scanned.{further-le}
 use Rattle.rules_text.specs.Bracketed.{brackets}
 use Rattle.reading_bracketed.proofs.Decimal.{Digits, none, one}

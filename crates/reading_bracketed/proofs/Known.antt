@@ -13,7 +13,7 @@ use Rattle.text_digits.specs.Digits.{integer}
 use Rattle.refusal.specs.declared.Error.the-variants.{PluralParsing, RuleTooLong}
 use Rattle.rules.specs.Tree.{Tree, var, int, nay, bin, cond, Op, Reading, tree, none}
 use Rattle.reading_scan.specs.Scan.{indexOf, endFrom}
-use Rattle.levels.specs.Levels.{Kind, binary, ternary, Row, rows, found}
+use Rattle.reading_levels.specs.Levels.{Kind, binary, ternary, Row, rows, found}
 use Rattle.reading_shipped.specs.Shipped.{one, two, three, orN, readInt, bang, colon, readNot, choose, cut, level, inside, parens, parseIn, shipped}
 use Rattle.reading_rule.specs.declared.Reading as choice
 use Rattle.reading_rule.specs.declared.Reading.the-variants.{Shipped, Standard}

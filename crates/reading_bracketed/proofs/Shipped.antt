@@ -16,7 +16,7 @@ use Rattle.text.proofs.Tests.{taken, left, and-left, and-right}
 use Rattle.rules.specs.Tree.{Tree, var, int, nay, bin, cond, Op, cmp, calc, and, or, rem, div, eq, ne, ge, le, gt, lt, Reading, tree}
 use Rattle.text_digits.specs.Digits.{digitsFrom, integer}
 use Rattle.reading_scan.specs.Scan.{indexOf, endFrom}
-use Rattle.levels.specs.Levels.{Kind, binary, ternary, Row, row, rows, found}
+use Rattle.reading_levels.specs.Levels.{Kind, binary, ternary, Row, row, rows, found}
 use Rattle.reading_shipped.specs.Shipped.{one, two, three, readN, readInt, bang, colon, readNot, choose, level, inside, parens, parseIn, shipped}
 use Rattle.rules_text.specs.Bracketed.{signOf, brackets, bracketed, decimal}
 use Rattle.reading_bracketed.specs.Bounded.{Bounded}

@@ -14,7 +14,7 @@ use Rattle.text.proofs.Walk.{rest-at, rest-end}
 use Rattle.rules.specs.Tree as tree
 use Rattle.rules.specs.Tree.{Tree}
 use Rattle.rules.specs.Pool.{Pool, treeOf}
-use Rattle.rules.specs.Sound.{Plain}
+use Rattle.rules.specs.Promise.{Plain}
 use Rattle.rules.specs.Pack.{packedSize, packed}
 use Rattle.rules.proofs.Packs.{no-more}
 use Rattle.rules.proofs.Unfolded.{size-pos, stored-tree, stored-plain}

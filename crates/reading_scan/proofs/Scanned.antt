@@ -11,7 +11,7 @@ use borrow.Author.Tests.{eqb-true}
 use Rattle.text.proofs.Walk.{rest-at}
 use Rattle.rules.proofs.Trees.{both-left}
 use Rattle.reading_scan.specs.Scan.{stands, counted, indexFrom, indexOf, deeper, further, endFrom}
-use Rattle.reading_scan.specs.Promise.{matched}
+use Rattle.reading_scan.specs.Private.{matched}
 
 pub counted-le : (n b ch : ℕ) → counted n b ch ≤ n + 1
 counted-le n b ch = go (eqb ch b)

@@ -6,7 +6,7 @@ ghost use Prim.Native.Nat.{_<_, _≤_};
 ghost use lib.Dec.{eqb};
 ghost use lib.ListN.{length, getD};
 ghost use Rattle.reading_scan.specs.Scan.{counted, indexOf, deeper, further, endFrom};
-ghost use Rattle.reading_scan.specs.Promise.{matched};
+ghost use Rattle.reading_scan.specs.Private.{matched};
 
 // One more if the byte is b.
 fn count(n: usize, b: u8, ch: u8) -> usize

@@ -9,7 +9,7 @@ use Rattle.rules.specs.Pool.{Pool}
 use Rattle.rules.specs.Reads.{Answered}
 use Rattle.rules.specs.declared.Nodes.{Nodes}
 use Rattle.rules.specs.declared.Nodes.the-variants.{Read}
-use Rattle.reading_shipped.specs.Promise.{Gives}
+use Rattle.reading_shipped.specs.Private.{Gives}
 
 pub from-zero : (o : Reading) (s : List ℕ) {P Q : Pool} {r : Nodes} → Gives o (length s) 0 P Q r → Answered o s P Q r
 from-zero (tree t) s w = record { read = record { answer = w .wrote .answer ∙ ap Read (omega arith); stored = w .wrote .stored; fits = w .wrote .small } }

@@ -12,7 +12,7 @@ use Rattle.rules.specs.Tree.{Reading}
 use Rattle.text_trim.specs.Trim.{trim, six}
 use Rattle.text_trim.proofs.Trimming.{trim-le}
 use Rattle.reading_scan.specs.Scan.{indexOf, endFrom}
-use Rattle.levels.specs.Levels.{Kind, binary, ternary, Row, rows, found}
+use Rattle.reading_levels.specs.Levels.{Kind, binary, ternary, Row, rows, found}
 use Rattle.reading_shipped.specs.Shipped.{two, one, readNot, choose, cut, level, inside, parens, parseIn, shipped, bang, colon}
 
 pub inside-length : (s : List ℕ) → length (inside s) ≡ length s - 2

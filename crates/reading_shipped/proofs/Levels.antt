@@ -9,7 +9,7 @@ use borrow.Author.Tests.{ltb-true}
 use Rattle.rules.specs.Tree.{rem, Reading}
 use Rattle.text_trim.specs.Trim.{trim, six}
 use Rattle.reading_scan.specs.Scan.{indexOf}
-use Rattle.levels.specs.Levels.{Row, row, rows, binary, found, rowAt, rowOf}
+use Rattle.reading_levels.specs.Levels.{Row, row, rows, binary, found, rowAt, rowOf}
 use Rattle.reading_shipped.specs.Shipped.{cutAt, readNot, level, shipped}
 
 -- the first row with a match says how the text is cut; without one the text goes on to `parse_not`

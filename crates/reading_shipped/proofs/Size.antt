@@ -16,7 +16,7 @@ use Rattle.text_digits.specs.Digits.{integer}
 use Rattle.text_digits.specs.declared.Number.{Number}
 use Rattle.text_digits.specs.declared.Number.the-variants.{Whole, NoNumber}
 use Rattle.reading_scan.specs.Scan.{indexOf, endFrom}
-use Rattle.levels.specs.Levels.{Kind, binary, ternary, Row, rows, found}
+use Rattle.reading_levels.specs.Levels.{Kind, binary, ternary, Row, rows, found}
 use Rattle.reading_shipped.specs.Shipped.{one, two, three, readN, orN, readInt, bang, colon, readNot, choose, cut, level, inside, parens, parseIn, shipped}
 
 -- a tree of at most n nodes, if any

@@ -17,9 +17,9 @@ use Rattle.text_trim.specs.Trim.{trim, six}
 use Rattle.text_digits.specs.declared.Number.{Number}
 use Rattle.text_digits.specs.Digits.{integer}
 use Rattle.reading_scan.specs.Scan.{indexOf, endFrom}
-use Rattle.levels.specs.Levels.{Kind, binary, ternary, Row, rows, found, codeOf}
+use Rattle.reading_levels.specs.Levels.{Kind, binary, ternary, Row, rows, found, codeOf}
 use Rattle.reading_shipped.specs.Shipped.{two, three, one, readN, orN, readInt, readNot, choose, cut, cutAt, level, inside, parens, shipped, bang, colon}
-use Rattle.reading_shipped.specs.Promise.{Gives}
+use Rattle.reading_shipped.specs.Private.{Gives}
 use Rattle.reading_shipped.proofs.Written.{wider}
 use Rattle.text.proofs.Walk.{part-from}
 use Rattle.text_trim.proofs.Trimming.{trim-le}

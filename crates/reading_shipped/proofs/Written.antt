@@ -8,7 +8,7 @@ use Rattle.rules.specs.Store.{size, store, push, nodeCode}
 use Rattle.rules.specs.declared.Nodes.{Nodes}
 use Rattle.rules.specs.declared.Nodes.the-variants.{Read, NoReading}
 use Rattle.reading_shipped.specs.Shipped.{one, two, three}
-use Rattle.reading_shipped.specs.Promise.{Stored, Wrote, Gives}
+use Rattle.reading_shipped.specs.Private.{Stored, Wrote, Gives}
 
 size-pos : (t : Tree) → 0 < size t
 unfolding size

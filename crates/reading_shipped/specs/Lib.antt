@@ -1,2 +1,2 @@
 pub mod Shipped
-pub mod Promise
+pub mod Private

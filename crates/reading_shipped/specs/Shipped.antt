@@ -11,7 +11,7 @@ use Rattle.text_digits.specs.declared.Number.{Number}
 use Rattle.text_digits.specs.declared.Number.the-variants.{Whole, NoNumber}
 use Rattle.text_digits.specs.Digits.{integer}
 use Rattle.reading_scan.specs.Scan.{indexOf, endFrom}
-use Rattle.levels.specs.Levels.{Kind, binary, ternary, Row, rows, found}
+use Rattle.reading_levels.specs.Levels.{Kind, binary, ternary, Row, rows, found}
 
 -- a node over the readings of its operands: one that has none leaves none
 abbrev pub one : Reading → Reading

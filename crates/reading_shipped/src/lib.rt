@@ -1,4 +1,4 @@
-// The Shipped reading of a plural rule: a port of plurals.rs, `Ast::parse`, `parse_parens` and the levels; `levels` and `scan` find where
+// The Shipped reading of a plural rule: a port of plurals.rs, `Ast::parse`, `parse_parens` and the levels; `reading_levels` and `reading_scan` find where
 // to cut. A piece is a part of the text; its nodes are appended to lent arrays, and `Box<Ast>` is a place in them.
 ghost use mathlib.Core.Path.{_≡_};
 ghost use Prim.Native.Nat.{_+_, _-_, _≤_, _<_};
@@ -8,9 +8,9 @@ ghost use Rattle.rules.specs.Store.{push};
 ghost use Rattle.rules.specs.Reads.{Answered};
 ghost use Rattle.rules.specs.declared.Nodes.the-variants as Nodes;
 ghost use Rattle.reading_scan.specs.Scan.{indexOf};
-ghost use Rattle.levels.specs.Levels.{rows, rowAt};
+ghost use Rattle.reading_levels.specs.Levels.{rows, rowAt};
 ghost use Rattle.reading_shipped.specs.Shipped.{readN, readInt, colon, readNot, choose, cutAt, level, parens, shipped};
-ghost use Rattle.reading_shipped.specs.Promise.{Gives, Cuts};
+ghost use Rattle.reading_shipped.specs.Private.{Gives, Cuts};
 
 // n, and nothing else.
 fn parse_n(
@@ -181,8 +181,8 @@ fn parse_row(
         (pool (now (codes .entry)) (now (places .entry)) (now (values .entry)))
         (pool (now (codes .exit)) (now (places .exit)) (now (values .exit))) r ⌝ }
 {
-    let i = levels::place_of(s, row);
-    let code = levels::code_of(row);
+    let i = reading_levels::place_of(s, row);
+    let code = reading_levels::code_of(row);
     if code == rules::node::TERNARY {
         return parse_ternary(s, i, codes, places, values, k);
     }
@@ -190,7 +190,7 @@ fn parse_row(
     let rules::Nodes::Read(m) = left else {
         return rules::Nodes::NoReading;
     };
-    let start = i + levels::width_of(row);
+    let start = i + reading_levels::width_of(row);
     let right = parse(&s[start..], codes, places, values, m);
     let rules::Nodes::Read(e) = right else {
         return rules::Nodes::NoReading;
@@ -211,7 +211,7 @@ fn parse_level(
         (pool (now (codes .entry)) (now (places .entry)) (now (values .entry)))
         (pool (now (codes .exit)) (now (places .exit)) (now (values .exit))) r ⌝ }
 {
-    let row = levels::row_of(s);
+    let row = reading_levels::row_of(s);
     if row < 10 {
         return parse_row(s, row, codes, places, values, k);
     }

@@ -18,7 +18,7 @@ use Rattle.reading_tokens.proofs.Nexts.{Step, NotNext}
 use Rattle.reading_grammar.proofs.Steps.{level-zero, level-suc, more-nil, more-number, more-sign, more-mark}
 use Rattle.reading_standard.specs.declared.Part.{Part}
 use Rattle.reading_standard.specs.declared.Part.the-variants.{Got, Bad}
-use Rattle.reading_standard.specs.Wrote.{Done, Before, Climbs, LevelWrote, MoreWrote, PrefixWrote}
+use Rattle.reading_standard.specs.Private.{Done, Before, Climbs, LevelWrote, MoreWrote, PrefixWrote}
 use Rattle.reading_standard.proofs.Taken.{answered, level-taken, level-refused, stands}
 use Rattle.reading_grammar.proofs.Choice.{left-if}
 

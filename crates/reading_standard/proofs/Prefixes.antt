@@ -14,7 +14,7 @@ use Rattle.reading_grammar.specs.Reading.{got, bad, Prefix}
 use Rattle.reading_tokens.proofs.Nexts.{Step, HugeAt, NotNext}
 use Rattle.reading_grammar.proofs.Steps.{level-zero, prefix-nil, prefix-sign, prefix-number, prefix-mark}
 use Rattle.reading_standard.specs.declared.Part.the-variants.{Got, Bad}
-use Rattle.reading_standard.specs.Wrote.{Done, LevelWrote, PrefixWrote}
+use Rattle.reading_standard.specs.Private.{Done, LevelWrote, PrefixWrote}
 use Rattle.reading_standard.proofs.Taken.{level-taken, level-refused}
 use Rattle.reading_grammar.proofs.Choice.{left-if}
 

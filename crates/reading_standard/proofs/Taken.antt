@@ -12,7 +12,7 @@ use Rattle.reading_grammar.specs.Tokens.{tokens}
 use Rattle.reading_grammar.specs.Reading.{Outcome, got, bad, Level}
 use Rattle.reading_standard.specs.declared.Part.{Part}
 use Rattle.reading_standard.specs.declared.Part.the-variants.{Got, Bad}
-use Rattle.reading_standard.specs.Wrote.{Wrote, Before, LevelWrote}
+use Rattle.reading_standard.specs.Private.{Wrote, Before, LevelWrote}
 
 -- what an outcome is, by the answer
 pub record Taken (o : Outcome) (s : List ℕ) (at k : ℕ) (P Q : Pool) (m q : ℕ) : Type 0 where

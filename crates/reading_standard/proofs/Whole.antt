@@ -10,7 +10,7 @@ use Rattle.reading_grammar.specs.Grammar.{Token, full}
 use Rattle.reading_grammar.specs.Tokens.{tokens}
 use Rattle.reading_grammar.specs.Reading.{standard}
 use Rattle.reading_standard.specs.declared.Part.the-variants.{Got, Bad}
-use Rattle.reading_standard.specs.Wrote.{LevelWrote}
+use Rattle.reading_standard.specs.Private.{LevelWrote}
 use Rattle.rules.specs.Reads.{Answered}
 use Rattle.reading_standard.proofs.Taken.{level-taken, level-refused}
 

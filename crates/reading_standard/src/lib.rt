@@ -13,7 +13,7 @@ ghost use Prim.Native.Nat.{_<_, _≤_, _-_};
 ghost use lib.ListN.{length};
 ghost use Rattle.rules.specs.Pool.{pool};
 ghost use Rattle.reading_grammar.specs.Grammar.{full};
-ghost use Rattle.reading_standard.specs.Wrote.{Room, LevelWrote, MoreWrote, PrefixWrote};
+ghost use Rattle.reading_standard.specs.Private.{Room, LevelWrote, MoreWrote, PrefixWrote};
 ghost use Rattle.rules.specs.Reads.{Answered};
 ghost use Rattle.reading_grammar.specs.Reading.{standard};
 

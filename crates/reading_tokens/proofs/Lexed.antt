@@ -18,7 +18,7 @@ use Rattle.reading_tokens.specs.declared.Next.{Next}
 use Rattle.reading_tokens.specs.declared.Next.the-variants.{End, Sign, Number, Huge, Mark}
 use Rattle.reading_tokens.specs.declared.After.the-variants.{At, Other}
 use Rattle.reading_tokens.specs.Scan.{lead, skipped, width, after, first, next, passed}
-use Rattle.reading_tokens.specs.Promise.{codeOf, signOf, pairFrom, singleFrom, ran}
+use Rattle.reading_tokens.specs.Private.{codeOf, signOf, pairFrom, singleFrom, ran}
 use Rattle.reading_grammar.proofs.Choice.{taken-if, left-if, both}
 use Rattle.reading_tokens.proofs.Rows.{past-end}
 

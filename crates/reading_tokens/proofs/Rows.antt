@@ -15,7 +15,7 @@ use Rattle.rules.specs.Operator.{opCode}
 use Rattle.rules.specs.Store.{nodeCode}
 use Rattle.reading_grammar.specs.Grammar.{sign, rank}
 use Rattle.reading_grammar.specs.Tokens.{findTwo, twos, findOne, ones}
-use Rattle.reading_tokens.specs.Promise.{codeOf, signOf, pairFrom, singleFrom}
+use Rattle.reading_tokens.specs.Private.{codeOf, signOf, pairFrom, singleFrom}
 use Rattle.reading_tokens.proofs.Table.{every, entry}
 use Rattle.reading_grammar.proofs.Choice.{taken-if, left-if, both, all-true, last-false}
 

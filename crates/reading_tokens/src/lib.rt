@@ -5,7 +5,7 @@ ghost use mathlib.Core.Path.{_≡_};
 ghost use lib.ListN.{getD};
 ghost use Rattle.reading_grammar.specs.Tokens.{digit};
 ghost use Rattle.reading_tokens.specs.Scan.{Operator, Ranks, skipped, next, passed};
-ghost use Rattle.reading_tokens.specs.Promise.{pairFrom, singleFrom, ran};
+ghost use Rattle.reading_tokens.specs.Private.{pairFrom, singleFrom, ran};
 
 // The next token and the position after it: an operator by its node's code, an integer of 64 bits or Huge, or any other byte.
 pub enum Next {

@@ -14,7 +14,7 @@ use borrow.Author.Tests.{lt-ltb, le-ltb, ltb-true, ltb-false, leb-true, eq-eqb, 
 use Rattle.rules.specs.Tree.{Tree, var, int, nay, bin, cond, rem, Op}
 use Rattle.rules.specs.Operator.{operators, opOf, Named}
 use Rattle.rules.specs.Pool.{Pool, pool, code, field, value, rows, known, joined, leaf, one, two, node, build, below, treeAt, treeOf, fields, operandsTo, operands, allBelow, used, member, shaped, isTree}
-use Rattle.rules.specs.Sound.{Sound}
+use Rattle.rules.specs.Promise.{Sound}
 use Rattle.rules.proofs.Operators.{never, named}
 
 pub both-left : (a b : Bool) → (a && b) ≡ true → a ≡ true

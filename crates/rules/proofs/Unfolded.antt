@@ -10,7 +10,7 @@ use lib.Dec.{leb, eqb}
 use Rattle.rules.specs.Tree.{Tree, var, int, nay, bin, cond}
 use Rattle.rules.specs.Operator.{opCode}
 use Rattle.rules.specs.Pool.{Pool, code, treeOf}
-use Rattle.rules.specs.Sound.{plain, Plain}
+use Rattle.rules.specs.Promise.{plain, Plain}
 use Rattle.rules.specs.Store.{push, size, store, blank}
 use Rattle.rules.specs.Pack.{Packed, leaf, one, two, three, unpack, nodes, keep}
 use Rattle.rules.proofs.Operators.{code-in}

@@ -7,4 +7,4 @@ pub mod Store
 pub mod Pack
 pub mod Answer
 pub mod Reads
-pub mod Sound
+pub mod Promise

@@ -10,7 +10,7 @@ use borrow.Author.Tests.{eqb-true, eqb-false, eq-eqb, ne-eqb, lt-leb, ltb-true, 
 use Rattle.rules.specs.Tree.{Tree, var, int, nay, bin, cond, Op, cmp, and, or, rem, eq, ne, ge, le, gt, lt, calc, div, plus, minus, times}
 use Rattle.rules.specs.Operator.{opOf, opCode, Named}
 use Rattle.rules.specs.Pool.{Pool, pool, code, value, field, treeOf}
-use Rattle.rules.specs.Sound.{plain, Plain}
+use Rattle.rules.specs.Promise.{plain, Plain}
 use Rattle.rules.specs.declared.Number.{Number}
 use Rattle.rules.specs.declared.Number.the-variants as number
 use Rattle.rules.specs.declared.Small.{Small}

@@ -10,7 +10,7 @@ ghost use mathlib.Core.Path.{_≡_};
 ghost use Prim.Native.Nat.{_+_, _-_, _≤_, _<_};
 ghost use lib.ListN.{getD};
 ghost use Rattle.rules.specs.Pool.{pool, treeOf};
-ghost use Rattle.rules.specs.Sound.{Plain};
+ghost use Rattle.rules.specs.Promise.{Plain};
 ghost use Rattle.rules.specs.Pack.{leftOf, smallBy, packedSize, packed};
 ghost use Rattle.rules_pack.specs.Private.{Packs, numberAt};
 

@@ -13,7 +13,7 @@ use Rattle.rules.specs.Tree.{Tree, Op, cmp, calc, and, or, rem, div, var, int, 
 use Rattle.rules.specs.Operator.{opOf, opAt, opCode, Named}
 use Rattle.rules.specs.Range.{rateTree, kept, opRange, notRange, binRange, condRange}
 use Rattle.rules.specs.Pool.{Pool, code, field, value, leaf, one, two, treeOf}
-use Rattle.rules.specs.Sound.{Sound}
+use Rattle.rules.specs.Promise.{Sound}
 use Rattle.rules.proofs.Operators.{code-is, op-at}
 use Rattle.rules.proofs.InRange.{ordered}
 use Rattle.rules_operators.proofs.Operators.{is-rem, is-div}

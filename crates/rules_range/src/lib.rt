@@ -12,7 +12,7 @@ ghost use lib.Dec.{ltb};
 ghost use Rattle.rules.specs.declared.Rating.the-variants as rating;
 ghost use Rattle.rules.specs.Range.{notRange, condRange, rateTree};
 ghost use Rattle.rules.specs.Pool.{pool, treeOf};
-ghost use Rattle.rules.specs.Sound.{Sound};
+ghost use Rattle.rules.specs.Promise.{Sound};
 ghost use Rattle.rules.specs.Answer.{ratedOf, fitOf};
 ghost use Rattle.rules_range.specs.Private.{Ordered, Calculates, Ranges, Joins};
 

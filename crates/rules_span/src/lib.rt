@@ -5,7 +5,7 @@ ghost use mathlib.Core.Path.{_≡_};
 ghost use Prim.Native.Nat.{_<_, _≤_, _+_, _^_};
 ghost use lib.ListN.{getD};
 ghost use Rattle.rules.specs.Pool.{pool, treeOf};
-ghost use Rattle.rules.specs.Sound.{Sound};
+ghost use Rattle.rules.specs.Promise.{Sound};
 ghost use Rattle.rules_span.specs.Span.{lineOf, bump, tallied, noFigures, tallyOf, figuresOf, number};
 
 // The figures of forms 0 to 15, then of those above, then of the counts that meet a zero divisor.

@@ -10,7 +10,7 @@ use Rattle.text.proofs.Tests.{by-test, never}
 use Rattle.rules.specs.Tree.{Tree, var, int, nay, bin, cond, Op, rem}
 use Rattle.rules.specs.Operator.{opOf, Named}
 use Rattle.rules.specs.Pool.{Pool, code, field, value, one, two, treeOf}
-use Rattle.rules.specs.Sound.{Sound}
+use Rattle.rules.specs.Promise.{Sound}
 use Rattle.rules.proofs.Trees.{known-in, op-low, op-high, before-in, first-in, second-in, down, tree-leaf, tree-one, tree-two, tree-three, leaf-op, leaf-rest, one-op, two-op}
 use Rattle.rules_text.specs.declared.Part.the-variants.{N, Number, Rest, Node}
 use Rattle.rules_text.specs.Bracketed.{bracketed}

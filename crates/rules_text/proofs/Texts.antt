@@ -7,7 +7,7 @@ use native.Mathlib.Omega.{arith}
 use Rattle.rules.specs.Tree.{Tree, var, int, bin, rem}
 use Rattle.rules.specs.Operator.{opOf}
 use Rattle.rules.specs.Pool.{Pool, code, value, treeOf}
-use Rattle.rules.specs.Sound.{Sound}
+use Rattle.rules.specs.Promise.{Sound}
 use Rattle.rules.proofs.Trees.{tree-leaf}
 use Rattle.rules_text.specs.declared.Part.{Part}
 use Rattle.rules_text.specs.declared.Part.the-variants.{N, Number, Node}

@@ -10,7 +10,7 @@ use lib.Seq.{sets}
 use lib.Dec.{leb, eqb}
 use Rattle.rules.specs.Tree.{Tree, var, int, nay, bin, cond, Op, rem}
 use Rattle.rules.specs.Pool.{Pool, treeOf}
-use Rattle.rules.specs.Sound.{Sound}
+use Rattle.rules.specs.Promise.{Sound}
 use Rattle.rules_text.specs.declared.Part.{Part}
 use Rattle.rules_text.specs.declared.Part.the-variants.{N, Number, Rest, Node}
 use Rattle.rules_text.specs.Bracketed.{signOf, bracketed}

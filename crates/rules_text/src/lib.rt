@@ -12,7 +12,7 @@ ghost use lib.Seq.{paste};
 ghost use Rattle.rules.specs.Operator.{opOf, Named};
 ghost use Rattle.rules.specs.Tree.{bin, rem, var, int};
 ghost use Rattle.rules.specs.Pool.{pool, treeOf};
-ghost use Rattle.rules.specs.Sound.{Sound};
+ghost use Rattle.rules.specs.Promise.{Sound};
 ghost use Rattle.rules_text.specs.Bracketed.{decimal, bracketed};
 ghost use Rattle.rules_text.specs.Writing.{writingOf, leftBy};
 ghost use Rattle.rules_text.specs.Private.{Puts, signBy, firstOf, secondOf, lastOf, leadOf, ternary, partTree, Held, Operand};

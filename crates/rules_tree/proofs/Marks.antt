@@ -13,7 +13,7 @@ use lib.Seq.{getD-set-same, getD-set-other}
 use lib.Dec.{leb, ltb, eqb}
 use borrow.Author.Tests.{lt-ltb, le-ltb, le-leb, lt-leb, leb-true, leb-false, ltb-true, eqb-true, eqb-false, eq-eqb, ne-eqb, not-false}
 use Rattle.rules.specs.Pool.{Pool, code, field, rows, known, fields, operandsTo, operands, allBelow, member, distinct, used, shaped, isTree}
-use Rattle.rules_tree.specs.Marks.{Unmarked, Marked, Took, Placed, Passes}
+use Rattle.rules_tree.specs.Private.{Unmarked, Marked, Took, Placed, Passes}
 use Rattle.rules.proofs.Operators.{never}
 use Rattle.rules.proofs.Trees.{both-left, both-right, member-head, member-tail}
 

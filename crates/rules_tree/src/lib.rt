@@ -8,7 +8,7 @@ ghost use mathlib.Core.List.{[]};
 ghost use Prim.Native.Nat.{_+_, _<_, _≤_, _*_};
 ghost use lib.ListN.{length, getD};
 ghost use Rattle.rules.specs.Pool.{pool, rows, known, used, shaped, isTree};
-ghost use Rattle.rules_tree.specs.Marks.{Unmarked, Marked, Took, Placed, Passes};
+ghost use Rattle.rules_tree.specs.Private.{Unmarked, Marked, Took, Placed, Passes};
 
 // Most rules have no more nodes, and so many marks are cleared at once.
 const FEW: usize = 64;

@@ -11,11 +11,11 @@ use Rattle.rules.specs.Tree.{Tree, rem}
 use Rattle.rules.specs.Value.{truth, binary, evalTree}
 use Rattle.rules.specs.Operator.{opOf, opAt, Named}
 use Rattle.rules.specs.Pool.{Pool, code, field, value, leaf, one, two, treeOf}
-use Rattle.rules.specs.Sound.{Sound}
+use Rattle.rules.specs.Promise.{Sound}
 use Rattle.rules_operators.specs.Operator.{settled, settledBy, Gives, Applies}
 use Rattle.rules_operators.proofs.Given.{number, fails-as, is-as, negation, first-arm, second-arm, left-alone, both, by-left}
 use Rattle.rules.proofs.Trees.{before-in, first-in, down, tree-leaf, tree-one, tree-two, tree-three, leaf-op, leaf-rest, one-op, two-op}
-use Rattle.rules_value.specs.Walk.{firstAt}
+use Rattle.rules_value.specs.Private.{firstAt}
 
 settles : (i x : ℕ) {s b : Bool} (k : Named i) → s ≡ settledBy (opOf i) x → s ≡ b → settled (k .op) x ≡ b
 settles i x k e d = ap (λ o. settledBy o x) (sym (k .is)) ∙ sym e ∙ d

@@ -12,10 +12,10 @@ ghost use Prim.Native.Nat.{_<_, _+_, _*_};
 ghost use lib.ListN.{getD};
 ghost use Rattle.rules.specs.Value.{evalTree};
 ghost use Rattle.rules.specs.Pool.{pool, treeOf};
-ghost use Rattle.rules.specs.Sound.{Sound};
+ghost use Rattle.rules.specs.Promise.{Sound};
 ghost use Rattle.rules.specs.Answer.{resolvedOf};
 ghost use Rattle.rules_operators.specs.Operator.{Gives};
-ghost use Rattle.rules_value.specs.Walk.{firstAt};
+ghost use Rattle.rules_value.specs.Private.{firstAt};
 
 // The integer in the first field of the node at a place.
 fn small<'a>(places: &'a [u16; 1024], at: usize) -> u64

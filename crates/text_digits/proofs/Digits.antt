@@ -12,7 +12,7 @@ use Rattle.text.proofs.Walk.{rest-at, part-from}
 use Rattle.text_digits.specs.declared.Number.{Number}
 use Rattle.text_digits.specs.declared.Number.the-variants.{Whole, NoNumber}
 use Rattle.text_digits.specs.Digits.{digit, digitsFrom, digits, integer}
-use Rattle.text_digits.specs.Promise.{digitOn}
+use Rattle.text_digits.specs.Private.{digitOn}
 
 -- `from_str_radix`: what is too much stays so
 either : (x : Bool) {r : Number} → r ≡ NoNumber → elim x [ true ↦ r | false ↦ NoNumber ] ≡ NoNumber

@@ -1,7 +1,7 @@
 // An integer of the Shipped reading: `u64::from_str_radix` in base ten, which plurals.rs asks of Rust's library, as a plain loop over bytes.
 ghost use mathlib.Core.Path.{_≡_};
 ghost use Rattle.text_digits.specs.Digits.{digits, integer};
-ghost use Rattle.text_digits.specs.Promise.{digitOn};
+ghost use Rattle.text_digits.specs.Private.{digitOn};
 
 // What `from_str_radix` makes of a text.
 pub enum Number {

@@ -1,7 +1,7 @@
 -- The value at the place lies in the header, and what is found in it starts further on. Assumes nothing.
 use Prim.Native.Nat.{_+_}
 use Rattle.header_fields.proofs.Places.{piece-fits}
-use Rattle.header.specs.Promise.{partOf}
+use Rattle.header.specs.Private.{partOf}
 use Rattle.header.proofs.Parts.{part-end, part-found}
 use borrow.Author.Needs.{needs}
 use native.Mathlib.Omega.{arith}

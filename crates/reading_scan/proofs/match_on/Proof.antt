@@ -1,7 +1,7 @@
 -- `match_on`: by the tests.
 use borrow.Author.Tests.{eq-eqb, ne-eqb, lt-ltb, le-ltb}
 use borrow.Author.Needs.{needs}
-use Rattle.reading_scan.specs.Promise.{matched}
+use Rattle.reading_scan.specs.Private.{matched}
 use Rattle.reading_scan.proofs.match_on.Statement.{statement}
 use Rattle.reading_scan.proofs.match_on.Tie as tie
 

@@ -1,7 +1,7 @@
 -- `rules_value::first` meets its contract: the code tells where the first operand is.
 use mathlib.Core.Path.{_∙_}
 use borrow.Author.Tests.{lt-ltb, le-ltb}
-use Rattle.rules_value.specs.Walk.{firstAt}
+use Rattle.rules_value.specs.Private.{firstAt}
 use borrow.Author.Needs.{needs}
 use Rattle.rules_value.proofs.first.Statement.{statement}
 use Rattle.rules_value.proofs.first.Tie as tie

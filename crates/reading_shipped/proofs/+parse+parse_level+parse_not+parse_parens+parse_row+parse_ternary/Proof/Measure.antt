@@ -22,15 +22,15 @@ use Rattle.reading_shipped.proofs.+parse+parse_level+parse_not+parse_pa
 use Rattle.reading_shipped.proofs.parse_ternary.Reads as parse-ternary
 use Rattle.reading_shipped.proofs.parse_ternary.Kinds as parse-ternary-kinds
 use Rattle.reading_shipped.proofs.+parse+parse_level+parse_not+parse_parens+parse_row+parse_ternary.Lts-parse_ternary as parse-ternary-lts
-use Rattle.levels.proofs.code_of.Reads as code-of-reads
+use Rattle.reading_levels.proofs.code_of.Reads as code-of-reads
 use Rattle.reading_scan.proofs.end_of.Reads as end-of-reads
 use Rattle.reading_scan.proofs.first_of.Reads as first-of-reads
 use Rattle.reading_scan.proofs.index_of.Reads as index-of-reads
 use Rattle.reading_shipped.proofs.node.Reads as node-reads
 use Rattle.reading_shipped.proofs.parse_int.Reads as parse-int-reads
-use Rattle.levels.proofs.place_of.Reads as place-of-reads
-use Rattle.levels.proofs.row_of.Reads as row-of-reads
-use Rattle.levels.proofs.width_of.Reads as width-of-reads
+use Rattle.reading_levels.proofs.place_of.Reads as place-of-reads
+use Rattle.reading_levels.proofs.row_of.Reads as row-of-reads
+use Rattle.reading_levels.proofs.width_of.Reads as width-of-reads
 use Rattle.text_trim.proofs.trim.Reads as trim-reads
 
 abbrev pub μ-parse : Measures 4 parse-kinds.ps ℕ

@@ -5,7 +5,7 @@ use mathlib.Core.Path.{refl}
 use native.Mathlib.Omega.{arith}
 use borrow.Author.Needs.{needs}
 use lib.ListN.{length-take, length-drop}
-use Rattle.levels.specs.Levels.{rows}
+use Rattle.reading_levels.specs.Levels.{rows}
 use Rattle.reading_shipped.specs.Shipped.{level, inside, shipped}
 use Rattle.reading_shipped.proofs.Steps.{trimmed-le, through, first-some, parens-plain, parens-lone, parens-more, parens-whole}
 use Rattle.reading_shipped.proofs.Written.{wider, gives-none}

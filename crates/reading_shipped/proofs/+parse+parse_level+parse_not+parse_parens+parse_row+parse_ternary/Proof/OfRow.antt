@@ -8,9 +8,9 @@ use lib.ListN.{length-take, length-drop}
 use lib.Seq.{length-take-le}
 use Rattle.reading_shipped.proofs.Steps.{Binary, cut-ternary, cut-binary, head-gives, tail-gives}
 use Rattle.reading_shipped.proofs.Written.{as-read, gave, two-left, two-right, two-both}
-use Rattle.levels.proofs.Table.{right}
+use Rattle.reading_levels.proofs.Table.{right}
 use Rattle.reading_scan.proofs.Scanned.{index-fits}
-use Rattle.levels.specs.Levels.{rowAt}
+use Rattle.reading_levels.specs.Levels.{rowAt}
 use Rattle.reading_shipped.proofs.+parse+parse_level+parse_not+parse_parens+parse_row+parse_ternary.Proof.Measure.{R-parse-row, parse-row-at, St-parse-row}
 use Rattle.reading_shipped.proofs.parse_row.Reads as parse-row
 use Rattle.reading_shipped.proofs.+parse+parse_level+parse_not+parse_parens+parse_row+parse_ternary.Lts-parse_row as lts

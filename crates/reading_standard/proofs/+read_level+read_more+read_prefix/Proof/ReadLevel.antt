@@ -5,7 +5,7 @@ use native.Mathlib.Omega.{arith}
 use denote.Ref.{now}
 use borrow.Author.Needs.{needs}
 use Rattle.rules.specs.Pool.{Pool, pool}
-use Rattle.reading_standard.specs.Wrote.{Climbs}
+use Rattle.reading_standard.specs.Private.{Climbs}
 use Rattle.reading_standard.proofs.Taken.{answered, gave}
 use Rattle.reading_standard.proofs.Levels.{by-prefix, by-bad-below, by-more, climbed, at-level}
 use Rattle.reading_standard.proofs.+read_level+read_more+read_prefix.Proof.Cycle.{read-level-at, read-more-below, read-prefix-below}

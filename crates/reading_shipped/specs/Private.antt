@@ -10,7 +10,7 @@ use Rattle.rules.specs.Store.{size, store}
 use Rattle.rules.specs.declared.Nodes.{Nodes}
 use Rattle.rules.specs.declared.Nodes.the-variants.{Read, NoReading}
 use Rattle.reading_scan.specs.Scan.{indexOf}
-use Rattle.levels.specs.Levels.{rowAt}
+use Rattle.reading_levels.specs.Levels.{rowAt}
 
 -- a tree of at most n nodes from place k on: the next free place is the answer
 pub record Stored (t : Tree) (n k : ℕ) (P Q : Pool) (r : Nodes) : Type 0 where

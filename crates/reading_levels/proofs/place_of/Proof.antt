@@ -2,10 +2,10 @@
 use mathlib.Core.Path.{_∙_, ap}
 use borrow.Author.Needs.{needs}
 use native.Mathlib.Omega.{arith}
-use Rattle.levels.proofs.Table.{right, signs-is}
+use Rattle.reading_levels.proofs.Table.{right, signs-is}
 use Rattle.reading_scan.specs.Scan.{indexOf}
-use Rattle.levels.proofs.place_of.Statement.{statement}
-use Rattle.levels.proofs.place_of.Tie as tie
+use Rattle.reading_levels.proofs.place_of.Statement.{statement}
+use Rattle.reading_levels.proofs.place_of.Tie as tie
 
 mul-start : tie.Need-mul-start
 mul-start c = search needs

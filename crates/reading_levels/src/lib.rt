@@ -5,7 +5,7 @@ ghost use mathlib.Core.Path.{_≡_};
 ghost use Prim.Native.Nat.{_<_};
 ghost use lib.ListN.{length};
 ghost use Rattle.reading_scan.specs.Scan.{indexOf};
-ghost use Rattle.levels.specs.Levels.{rows, rowAt, rowOf, codeOf};
+ghost use Rattle.reading_levels.specs.Levels.{rows, rowAt, rowOf, codeOf};
 
 // The levels in their order: two signs for each, how many of them count, and the code of the node.
 const SIGNS: [u8; 20] = *b"&&||?\0>=>\0<=<\0==!=%\0";

@@ -1,8 +1,8 @@
 -- `code_of`: the table's code is that of the definition's row (Table).
 use borrow.Author.Needs.{needs}
-use Rattle.levels.proofs.Table.{right}
-use Rattle.levels.proofs.code_of.Statement.{statement}
-use Rattle.levels.proofs.code_of.Tie as tie
+use Rattle.reading_levels.proofs.Table.{right}
+use Rattle.reading_levels.proofs.code_of.Statement.{statement}
+use Rattle.reading_levels.proofs.code_of.Tie as tie
 
 array-read-result : tie.Need-array-read-result
 array-read-result c = search needs

@@ -10,7 +10,7 @@ use borrow.Author.Tests.{lt-ltb, le-ltb}
 use Rattle.rules.specs.Tree.{rem}
 use Rattle.rules.specs.Operator.{opCode}
 use Rattle.reading_scan.specs.Scan.{indexOf}
-use Rattle.levels.specs.Levels.{row, rows, binary, rowAt, rowOf, codeOf}
+use Rattle.reading_levels.specs.Levels.{row, rows, binary, rowAt, rowOf, codeOf}
 
 -- the tables of src/lib.rt: two signs for a row, how many of them count, and the node's code
 abbrev pub signs : List ℕ

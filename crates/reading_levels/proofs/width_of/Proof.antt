@@ -1,8 +1,8 @@
 -- `width_of`: the table's width is that of the definition's row (Table).
 use borrow.Author.Needs.{needs}
-use Rattle.levels.proofs.Table.{right}
-use Rattle.levels.proofs.width_of.Statement.{statement}
-use Rattle.levels.proofs.width_of.Tie as tie
+use Rattle.reading_levels.proofs.Table.{right}
+use Rattle.reading_levels.proofs.width_of.Statement.{statement}
+use Rattle.reading_levels.proofs.width_of.Tie as tie
 
 mul-result : tie.Need-mul-result
 mul-result c = search needs

@@ -2,14 +2,14 @@
 -- Assumes nothing.
 use mathlib.Core.Path.{sym, _∙_}
 use Rattle.promise.proofs.One.{One}
-use Rattle.levels.proofs.width_of.Reads as width-of
-use Rattle.levels.proofs.width_of.Kinds as width-of-kinds
-use Rattle.levels.proofs.code_of.Reads as code-of
-use Rattle.levels.proofs.code_of.Kinds as code-of-kinds
-use Rattle.levels.proofs.place_of.Reads as place-of
-use Rattle.levels.proofs.place_of.Kinds as place-of-kinds
-use Rattle.levels.proofs.row_of.Reads as row-of
-use Rattle.levels.proofs.row_of.Kinds as row-of-kinds
+use Rattle.reading_levels.proofs.width_of.Reads as width-of
+use Rattle.reading_levels.proofs.width_of.Kinds as width-of-kinds
+use Rattle.reading_levels.proofs.code_of.Reads as code-of
+use Rattle.reading_levels.proofs.code_of.Kinds as code-of-kinds
+use Rattle.reading_levels.proofs.place_of.Reads as place-of
+use Rattle.reading_levels.proofs.place_of.Kinds as place-of-kinds
+use Rattle.reading_levels.proofs.row_of.Reads as row-of
+use Rattle.reading_levels.proofs.row_of.Kinds as row-of-kinds
 
 pub width-of-one : One 0 width-of-kinds.ps width-of-kinds.r width-of.Post
 width-of-one κs a u v x y p q = p ∙ sym q

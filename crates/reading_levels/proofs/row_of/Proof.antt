@@ -4,10 +4,10 @@ use mathlib.Core.Path.{_≡_}
 use lib.ListN.{drop}
 use borrow.Author.Needs.{needs}
 use native.Mathlib.Omega.{arith}
-use Rattle.levels.proofs.Table.{row-on, row-here, row-end}
-use Rattle.levels.specs.Levels.{rows, rowOf}
-use Rattle.levels.proofs.row_of.Statement.{statement}
-use Rattle.levels.proofs.row_of.Tie as tie
+use Rattle.reading_levels.proofs.Table.{row-on, row-here, row-end}
+use Rattle.reading_levels.specs.Levels.{rows, rowOf}
+use Rattle.reading_levels.proofs.row_of.Statement.{statement}
+use Rattle.reading_levels.proofs.row_of.Tie as tie
 
 abbrev Inv-loop : tie.InvT-loop
 Inv-loop s row₀ row = (row ≤ 10) × (rowOf rows s ≡ row + rowOf (drop row rows) s)
