@@ -117,8 +117,8 @@ impl<'r> ParseOptions<'r> {
 /// let file = std::fs::read(path).unwrap();
 /// let refusal = ParseOptions::new().located().parse_slice(&file).unwrap_err();
 /// assert!(matches!(refusal.error(), Error::DecodingError));
-/// assert_eq!((refusal.entry(), refusal.side()), (Some(1), Some(Side::Translation)));
-/// assert_eq!(refusal.to_string(), "invalid byte sequence in a string, entry 1, translation");
+/// assert_eq!((refusal.entry(), refusal.side()), (Some(0), Some(Side::Translation)));
+/// assert_eq!(refusal.to_string(), "invalid byte sequence in a string, entry 0, translation");
 /// ```
 #[derive(Clone, Copy, Debug, Default)]
 #[must_use]
