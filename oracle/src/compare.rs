@@ -115,7 +115,8 @@ pub struct Stats {
     pub lookups: u64,
     pub values: u64,
     pub indexes: u64,
-    pub places: u64,
+    // refused loads by the side that they name, 0 none
+    pub places: [u64; 5],
     pub numbers: [u64; 12],
     // each kind of explained difference: how often, and its shortest header or rule
     pub kinds: BTreeMap<String, (u64, Vec<u8>)>,
@@ -127,7 +128,9 @@ impl Stats {
         self.lookups += other.lookups;
         self.values += other.values;
         self.indexes += other.indexes;
-        self.places += other.places;
+        for (sum, x) in self.places.iter_mut().zip(other.places) {
+            *sum += x;
+        }
         for (sum, x) in self.numbers.iter_mut().zip(other.numbers) {
             *sum += x;
         }
@@ -423,7 +426,7 @@ impl Oracle {
         if ours.told() != told {
             return Err(format!("{:?}, by the words {told:?}", ours.told()));
         }
-        self.stats.places += (told.number != 0) as u64;
+        self.stats.places[told.side as usize] += (told.number != 0) as u64;
         Ok(())
     }
 

@@ -178,7 +178,7 @@ fn summary(part: &str, stats: &Stats, differ: u64, start: Instant) -> bool {
         println!("  explained {times}: {kind}; shortest: {}", shrink::example(kind, example));
     }
     println!(
-        "{part}: {} cases, {} lookups, {} values, {} indexes, {} places; agreed by number {:?}; {} explained, {differ} differ",
+        "{part}: {} cases, {} lookups, {} values, {} indexes; refused by side {:?}; agreed by number {:?}; {} explained, {differ} differ",
         stats.cases,
         stats.lookups,
         stats.values,

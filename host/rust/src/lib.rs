@@ -25,6 +25,10 @@
 //! assert_eq!(catalog.rating(), Some((0, 1)));
 //! assert_eq!(catalog.rule_text()?, "(n!=1)");
 //! assert_eq!(catalog.forms_over(0..=9)?.of(0), Some(1));
+//!
+//! // a refusal that says where
+//! let cut = ParseOptions::new().located().parse_slice(&file[..400]);
+//! assert_eq!(cut.unwrap_err().to_string(), "unexpected end of file, entry 2, translation");
 //! # Ok(())
 //! # }
 //! ```
