@@ -387,7 +387,7 @@ pub extern "C" fn gettext_c_why_ngettext<'a>(
 {
     let nodes = head[5];
     let root = head[6];
-    let why = lookup_why::why(
+    let why = lookup_why::explain(
         file,
         tables_in(head),
         codes,
@@ -420,7 +420,7 @@ pub extern "C" fn gettext_c_why_npgettext<'a>(
 {
     let nodes = head[5];
     let root = head[6];
-    let why = lookup_why::why(
+    let why = lookup_why::explain(
         file,
         tables_in(head),
         codes,

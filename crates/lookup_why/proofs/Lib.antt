@@ -1,2 +1,4 @@
+mod Counted
+mod Reasons
 pub mod True
 pub mod Unique

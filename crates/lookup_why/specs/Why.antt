@@ -19,7 +19,7 @@ use Rattle.lookup_why.specs.declared.Why.{Why}
 use Rattle.lookup_why.specs.declared.Why.the-variants.{StaleLength, NoTree, ZeroDivisor, NoEntry, TooFewSegments, Answered}
 
 -- how many segments are stored in a translation that lies in the file
-abbrev pub stored : List ℕ → ℕ → ℕ → ℕ
+unfoldable pub stored : List ℕ → ℕ → ℕ → ℕ
 stored s start len = elim (leb (start + len) (length s)) [ true ↦ length (segments s start len) | false ↦ 0 ]
 
 -- the segment that a form names, of entry i, which stores k of them

@@ -79,7 +79,7 @@ fn by_rule(file: &[u8], value: Traced, hit: Hit) -> Why
 }
 
 // Why `lookup::nfind` of the same answers as it does.
-pub fn why<'a, 'b>(
+pub fn explain<'a, 'b>(
     file: &'a [u8],
     t: Tables,
     codes: &'b [u8; 512],
