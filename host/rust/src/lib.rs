@@ -29,7 +29,7 @@
 //! // why did I get this text?
 //! let why = catalog.why_ngettext("%d page", "%d pages", 3);
 //! assert_eq!(why.answer.text, "%d Seiten");
-//! assert_eq!(why.reason.to_string(), "entry 1, form 1, at byte 362 of the file");
+//! assert_eq!(why.reason.to_string(), "entry 1, form 1, at byte 378 of the file");
 //! # Ok(())
 //! # }
 //! ```

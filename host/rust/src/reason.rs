@@ -91,7 +91,10 @@ impl fmt::Display for Reason {
                 entry,
                 form,
                 offset,
-            } => write!(f, "entry {entry}, form {form}, at byte {offset} of the file"),
+            } => write!(
+                f,
+                "entry {entry}, form {form}, at byte {offset} of the file"
+            ),
             Reason::Unknown(kind) => {
                 write!(f, "reason {kind}, which this version does not know")
             }

@@ -1,9 +1,7 @@
 //! Small files and rules: document 01's F and G with their variants, every refusal that a file can get, and the lookups over files made
 //! here.
 
-use gettext_rattle::{
-    cost, is_utf8, Catalog, Error, ParseOptions, Reading, Reason, Status, Which,
-};
+use gettext_rattle::{cost, is_utf8, Catalog, Error, ParseOptions, Reading, Reason, Status, Which};
 use std::collections::HashMap;
 use std::fs::File;
 use std::io::{self, Read};
@@ -824,11 +822,7 @@ fn the_text_of_a_rule() {
 
 #[test]
 fn why_did_i_get_this_text() {
-    let file = made(&[
-        (b"a", b"x"),
-        (b"a", b"b\0c"),
-        (b"m\x04a", b"d\0\0f"),
-    ]);
+    let file = made(&[(b"a", b"x"), (b"a", b"b\0c"), (b"m\x04a", b"d\0\0f")]);
     let under = |rule| {
         ParseOptions::new()
             .force_plural(rule)
@@ -859,7 +853,10 @@ fn why_did_i_get_this_text() {
         why.reason.to_string(),
         "entry 1 has 2 forms, the rule names form 2"
     );
-    assert_eq!((why.answer.text, why.answer.status), ("as", Status::Answered));
+    assert_eq!(
+        (why.answer.text, why.answer.status),
+        ("as", Status::Answered)
+    );
     let why = catalog.why_npgettext("m", "a", "as", 2);
     assert_eq!(why.answer.text, "f");
     let why = catalog.why_npgettext("m", "a", "as", 3);
@@ -883,7 +880,7 @@ fn why_did_i_get_this_text() {
         ("(1/n)/(n%0)", 0, 2),
         ("1/(n%0)", 3, 1),
         ("0*(1/n)", 0, 3),
-        ("n%0/3", 1, 0),
+        ("n%0/3", 2, 0),
     ] {
         let catalog = under(rule);
         for id in ["a", "z"] {
