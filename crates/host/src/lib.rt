@@ -318,7 +318,15 @@ pub fn explained_of(why: Why, own: u32) -> Explained
         Why::NoTree => left_own(2, number, own, 0, 0, 0, 0),
         Why::ZeroDivisor(node) => left_own(3, number, own, node, 0, 0, 0),
         Why::NoEntry => left_own(4, number, own, 0, 0, 0, 0),
-        Why::TooFewSegments(entry, stored, form) => left_own(5, number, own, 0, entry, stored, form),
+        Why::TooFewSegments(entry, stored, form) => left_own(
+            5,
+            number,
+            own,
+            0,
+            entry,
+            stored,
+            form,
+        ),
         Why::Answered(entry, form, start, len) => Explained {
             kind: 6,
             number,

@@ -2,3 +2,4 @@ mod Counted
 mod Reasons
 pub mod True
 pub mod Unique
+mod Cases

@@ -1,18 +1,20 @@
 -- THE THEOREM: the lookup's own reason is a function of why, so its number and its text are. And what is told beside: how many segments are
 -- stored decides whether a form has one. Assumes nothing.
-use Prim.Native.Nat.{ℕ, _+_, _<_, _≤_}
+use Prim.Native.Nat.{ℕ, zero, suc, _+_, _<_, _≤_}
 use mathlib.Core.Path.{_≡_, refl, sym, ap, _∙_}
 use mathlib.Core.Bool.{Bool, true, false}
-use mathlib.Core.List.{List}
+use mathlib.Core.List.{List, [], _∷_}
 use native.Mathlib.Omega.{arith}
 use lib.ListN.{length}
-use lib.Dec.{eqb}
+use lib.Dec.{eqb, leb}
+use borrow.Author.Tests.{leb-true}
 use Rattle.rules.specs.Pool.{Pool}
 use Rattle.rules.specs.Answer.{resolvedOf}
 use Rattle.rules.specs.declared.Resolved.{Resolved}
 use Rattle.rules.specs.declared.Resolved.the-variants as resolved
 use Rattle.rules_zero.specs.Zero.{zeroAt, traced, tracedOf}
-use Rattle.container_layout.specs.Mo.{segment}
+use Rattle.container_layout.specs.Mo.{pieceAt, segment, segments}
+use Rattle.container_layout.proofs.Forms.{segment-holds, segment-is}
 use Rattle.container_layout.specs.declared.Tables.{Tables}
 use Rattle.container_layout.specs.declared.Stretch.{Stretch}
 use Rattle.container_layout.specs.declared.Stretch.the-variants as stretch
@@ -67,3 +69,36 @@ module _ (s : List ℕ) (t : Tables) (P : Pool) (nodes root n : ℕ) (h : Hit) w
 
   pub why-text : pluralText n theirs ≡ pluralText n (reasonOf ours)
   why-text = ap (pluralText n) why-true
+
+-- How many segments an entry stores: exactly the forms below have one.
+none-past : (at k : ℕ) (ps : List (List ℕ)) → length ps ≤ k → pieceAt at k ps ≡ stretch.Outside
+unfolding pieceAt
+none-past at k [] h = refl
+none-past at zero (p ∷ ps) h = absurd (omega arith)
+none-past at (suc k) (p ∷ ps) h = none-past (at + length p + 1) k ps (omega arith)
+
+module _ (s : List ℕ) (start len form : ℕ) where
+  pub record Segment : Type 0 where
+    pub at : ℕ
+    pub size : ℕ
+    pub is : segment s start len form ≡ stretch.At at size
+
+  pub below-stored : form < stored s start len → Segment
+  unfolding stored
+  below-stored h = go (leb (start + len) (length s)) refl h
+    where
+      go : (b : Bool) → leb (start + len) (length s) ≡ b → form < elim b [ true ↦ length (segments s start len) | false ↦ 0 ] → Segment
+      go true e l =
+          let d = leb-true (start + len) (length s) e in
+          let w = segment-holds s start len d form l in
+          record { at = w .start; size = w .len; is = segment-is s start len d form ∙ w .is }
+      go false e l = absurd (omega arith)
+
+  pub past-stored : stored s start len ≤ form → segment s start len form ≡ stretch.Outside
+  unfolding stored segment
+  past-stored h = go (leb (start + len) (length s)) h
+    where
+      go : (b : Bool) → elim b [ true ↦ length (segments s start len) | false ↦ 0 ] ≤ form
+          → _≡_ {A = Stretch} (elim b [ true ↦ pieceAt start form (segments s start len) | false ↦ stretch.Outside ]) stretch.Outside
+      go true l = none-past start form (segments s start len) l
+      go false l = refl
