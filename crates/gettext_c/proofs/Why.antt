@@ -8,7 +8,7 @@ use mathlib.Core.List.{List}
 use contract.Lifetimes.{Lfts}
 use denote.Ref.{now}
 use denote.Triple.Clauses.{AtExit}
-use borrow.Fn.Kinds.{Dens, resT, endedOf}
+use borrow.Fn.Kinds.{Dens, endedOf}
 use Rattle.rules.specs.Pool.{Pool, pool}
 use Rattle.lookup_scan.specs.Keys.{keyOf, lastWith}
 use Rattle.lookup_why.proofs.True.{why-true}

@@ -1,4 +1,4 @@
--- Why a lookup with a count answers as it does, as numbers; and the lookup's answer, which is a function of them. SPEC 9.1.
+-- Why a lookup with a count answers as it does, as numbers; and the lookup's answer, which is a function of them. SPEC 9.7.
 use Prim.Native.Nat.{ℕ}
 use mathlib.Core.Bool.{true, false}
 use lib.Dec.{eqb}

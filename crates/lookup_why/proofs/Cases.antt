@@ -1,6 +1,6 @@
 -- A case for each reason, computed. The file has two entries with the key "a": the first stores x, y and z, the last, which counts, b and c. Assumes
 -- nothing.
-use Prim.Native.Nat.{ℕ, _-_}
+use Prim.Native.Nat.{ℕ}
 use mathlib.Core.Path.{_≡_, refl}
 use mathlib.Core.Bool.{false}
 use mathlib.Core.List.{List, [], _∷_, map}

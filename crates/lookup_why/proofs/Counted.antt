@@ -1,7 +1,7 @@
 -- The segments of a translation, as a loop that counts them meets them; and what the count says. Assumes nothing.
-use Prim.Native.Nat.{ℕ, zero, suc, _+_, _-_, _<_, _≤_}
-use mathlib.Core.Path.{_≡_, refl, sym, ap, _∙_}
-use mathlib.Core.List.{List, [], _∷_}
+use Prim.Native.Nat.{ℕ, _+_, _-_, _<_, _≤_}
+use mathlib.Core.Path.{_≡_, sym, ap, _∙_}
+use mathlib.Core.List.{List}
 use native.Mathlib.Omega.{arith}
 use native.Mathlib.Nat.{add-sub-cancel-left}
 use lib.ListN.{length, take, drop}
@@ -10,7 +10,6 @@ use Rattle.text.specs.Bytes.{place}
 use Rattle.text.specs.Cut.{cut}
 use Rattle.text.proofs.Tests.{taken, left}
 use Rattle.text.proofs.Cuts.{rest-last, rest-more}
-use Rattle.container_layout.specs.Mo.{segments}
 use Rattle.lookup_why.specs.Why.{stored}
 
 -- count is one more than were passed, and at is after them

@@ -25,7 +25,6 @@ use Rattle.lookup.specs.Lookup.{plural, number}
 use Rattle.lookup.specs.Text.{pluralText}
 use Rattle.lookup.specs.declared.Reason.{Reason}
 use Rattle.lookup.specs.declared.Reason.the-variants as reason
-use Rattle.lookup.specs.declared.Text.{Text}
 use Rattle.lookup_why.specs.Why.{stored, bySegment, byEntry, byRule, why, reasonOf}
 use Rattle.lookup_why.specs.declared.Why.{Why}
 use Rattle.lookup_why.specs.declared.Why.the-variants.{StaleLength}

@@ -1,4 +1,4 @@
--- Why a lookup with a count answers as it does: the first reason that holds. SPEC 9.1. `reasonOf` makes it the lookup's own reason, by which
+-- Why a lookup with a count answers as it does: the first reason that holds. SPEC 9.7. `reasonOf` makes it the lookup's own reason, by which
 -- its number and its text are told; proofs/True.antt: it is that reason.
 use Prim.Native.Nat.{ℕ, _+_}
 use mathlib.Core.Bool.{true, false}

@@ -6,10 +6,10 @@ use mathlib.Core.Bool.{Bool, true, false}
 use mathlib.Core.List.{List, [], _∷_}
 use mathlib.Core.Option.{Option}
 use mathlib.Core.Logic.{_⊎_, inl, inr, ⊎-elim}
-use Prim.Native.Nat.{ℕ, zero, suc, _-_, _<_, _≤_, _%_, _/_}
+use Prim.Native.Nat.{ℕ, zero, suc, _-_, _<_, _%_, _/_}
 use native.Mathlib.Omega.{arith}
 use lib.Dec.{ltb, eqb}
-use borrow.Author.Tests.{lt-ltb, le-ltb, ltb-true, ltb-false, eq-eqb, ne-eqb, eqb-true, eqb-false}
+use borrow.Author.Tests.{lt-ltb, le-ltb, ltb-true, ltb-false, eq-eqb, ne-eqb, eqb-true}
 use Rattle.rules.specs.declared.Value.{Value}
 use Rattle.rules.specs.declared.Value.the-variants.{Is, ZeroModulus}
 use Rattle.rules.specs.Tree.{Tree, var, int, nay, bin, cond, Op, cmp, calc, and, or, rem, div}
@@ -22,7 +22,7 @@ use Rattle.rules.proofs.Trees.{member-head, before-in, first-in, second-in, op-
 use Rattle.rules_operators.specs.Operator.{settled, settledBy}
 use Rattle.rules_operators.proofs.Operators.{settled-any, unsettled}
 use Rattle.rules_zero.specs.Zero.{valueAt, second, reached, without, firstOf, stepOf, zeroAt}
-use Rattle.rules_zero.proofs.Steps.{step-leaf, step-one, step-first, step-settled, step-both, step-no, step-chosen, step-yes, step-down, zero-here, zero-on}
+use Rattle.rules_zero.proofs.Steps.{zero-here, zero-on}
 
 -- % and /
 unfoldable pub isDivision : Op → Bool

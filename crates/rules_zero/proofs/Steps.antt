@@ -1,8 +1,8 @@
 -- A step from a node toward the one that divides by zero, by its code and its operands' values; and the steps together, which end because
 -- operands lie below their parents. After `zero-on` nothing counts them. Assumes nothing.
 use mathlib.Core.Path.{_≡_, refl, sym, ap, _∙_}
-use mathlib.Core.Bool.{Bool, true, false, _&&_}
-use mathlib.Core.List.{List, [], _∷_}
+use mathlib.Core.Bool.{Bool, true, false}
+use mathlib.Core.List.{[], _∷_}
 use Prim.Native.Nat.{ℕ, zero, suc, _-_, _<_, _≤_, _%_}
 use native.Mathlib.Omega.{arith}
 use lib.Dec.{ltb, eqb}
@@ -15,11 +15,10 @@ use Rattle.rules.specs.Operator.{opOf}
 use Rattle.rules.specs.Pool.{Pool, code, field, isTree}
 use Rattle.rules.specs.Promise.{Sound}
 use Rattle.rules.specs.Answer.{resolvedOf}
-use Rattle.rules.proofs.Trees.{before-in, first-in, second-in, down, sound}
+use Rattle.rules.proofs.Trees.{first-in, second-in, down, sound}
 use Rattle.rules.proofs.Answers.{resolved-none}
 use Rattle.rules_operators.specs.Operator.{settledBy}
 use Rattle.rules_zero.specs.Zero.{valueAt, second, reached, without, firstOf, stepOf, steps, zeroAt, traced, tracedOf}
-use Rattle.rules_zero.specs.declared.Traced.{Traced}
 
 module _ (P : Pool) (n p : ℕ) where
   pub step-leaf : code P p < 48 → p ≡ stepOf P n p

@@ -1,4 +1,4 @@
--- Where evaluation meets a zero divisor. SPEC 7.1: it goes to the operands of a node in order, of which it passes by what it does not need, and it
+-- Where evaluation meets a zero divisor. SPEC 6.4 and 9.7: it goes to the operands of a node in order, of which it passes by what it does not need, and it
 -- stops at the first % or / whose divisor is 0. Its node is the one that holds it: a packed node holds up to two operators.
 use Prim.Native.Nat.{ℕ, zero, suc, _-_, _%_}
 use mathlib.Core.Bool.{true, false}

@@ -6,7 +6,6 @@ use rules::place;
 use rules_operators::settles;
 use rules_value::value_at;
 ghost use mathlib.Core.Path.{_≡_};
-ghost use Prim.Native.Nat.{_<_};
 ghost use Rattle.rules.specs.Pool.{pool};
 ghost use Rattle.rules.specs.Promise.{Sound};
 ghost use Rattle.rules_zero.specs.Zero.{valueAt, without, stepOf, zeroAt, tracedOf};

@@ -4,11 +4,6 @@ use Rattle.host.proofs.Explains.{explains}
 use borrow.Author.Needs.{needs}
 use Rattle.host.proofs.explained_of.Statement.{statement}
 use Rattle.host.proofs.explained_of.Tie as tie
-use Rattle.host.proofs.explained_of.Reads as reads
-use Rattle.host.proofs.explained_of.Lts as lts
-use Rattle.host.proofs.left_own.Reads as left-own-reads
-use Rattle.lookup.proofs.number_of.Reads as number-of-reads
-use Rattle.lookup_why.proofs.reason_of.Reads as reason-of-reads
 
 reason-of-requires : tie.Need-reason-of-requires
 reason-of-requires c κs = search needs

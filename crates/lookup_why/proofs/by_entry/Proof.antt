@@ -3,10 +3,6 @@ use Rattle.lookup_why.proofs.Reasons.{answered, too-few}
 use borrow.Author.Needs.{needs}
 use Rattle.lookup_why.proofs.by_entry.Statement.{statement}
 use Rattle.lookup_why.proofs.by_entry.Tie as tie
-use Rattle.lookup_why.proofs.by_entry.Reads as reads
-use Rattle.lookup_why.proofs.by_entry.Lts as lts
-use Rattle.container_layout.proofs.segment_at.Reads as segment-at-reads
-use Rattle.lookup_why.proofs.stored_at.Reads as stored-at-reads
 
 enum-known-hit : tie.Need-enum-known-hit
 enum-known-hit c = search needs

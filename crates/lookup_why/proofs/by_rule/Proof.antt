@@ -6,9 +6,6 @@ use Rattle.lookup_why.specs.Why.{byRule}
 use borrow.Author.Needs.{needs}
 use Rattle.lookup_why.proofs.by_rule.Statement.{statement}
 use Rattle.lookup_why.proofs.by_rule.Tie as tie
-use Rattle.lookup_why.proofs.by_rule.Reads as reads
-use Rattle.lookup_why.proofs.by_rule.Lts as lts
-use Rattle.lookup_why.proofs.by_entry.Reads as by-entry-reads
 
 enum-known-value : tie.Need-enum-known-value
 enum-known-value c = search needs

@@ -7,9 +7,6 @@ use Rattle.lookup_why.proofs.Counted.{Counted, counted-first, counted-a
 use borrow.Author.Needs.{needs}
 use Rattle.lookup_why.proofs.count_in.Statement.{statement}
 use Rattle.lookup_why.proofs.count_in.Tie as tie
-use Rattle.lookup_why.proofs.count_in.Reads as reads
-use Rattle.lookup_why.proofs.count_in.Lts as lts
-use Rattle.text.proofs.find_byte_from.Reads as find-byte-from-reads
 
 abbrev Inv-loop : tie.InvT-loop
 Inv-loop translation count₀ at₀ count at = Counted translation count at

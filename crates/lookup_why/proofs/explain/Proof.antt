@@ -4,11 +4,6 @@ use Rattle.lookup_why.proofs.Reasons.{stale, by-rule}
 use borrow.Author.Needs.{needs}
 use Rattle.lookup_why.proofs.explain.Statement.{statement}
 use Rattle.lookup_why.proofs.explain.Tie as tie
-use Rattle.lookup_why.proofs.explain.Reads as reads
-use Rattle.lookup_why.proofs.explain.Lts as lts
-use Rattle.lookup_scan.proofs.last_hit.Reads as last-hit-reads
-use Rattle.lookup_why.proofs.by_rule.Reads as by-rule-reads
-use Rattle.rules_zero.proofs.trace.Reads as trace-reads
 
 returns : tie.Need-returns
 returns c = stale _ _ _ _ (λ e. c .if1 .taken (sym e))

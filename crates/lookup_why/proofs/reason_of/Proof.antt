@@ -4,8 +4,6 @@ use Rattle.lookup_why.specs.Why.{reasonOf}
 use borrow.Author.Needs.{needs}
 use Rattle.lookup_why.proofs.reason_of.Statement.{statement}
 use Rattle.lookup_why.proofs.reason_of.Tie as tie
-use Rattle.lookup_why.proofs.reason_of.Reads as reads
-use Rattle.lookup_why.proofs.reason_of.Lts as lts
 
 enum-told : tie.Need-enum-told
 enum-told c = search needs

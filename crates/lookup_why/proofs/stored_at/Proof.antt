@@ -4,9 +4,6 @@ use Rattle.lookup_why.proofs.Counted.{none-stored, all-stored}
 use borrow.Author.Needs.{needs}
 use Rattle.lookup_why.proofs.stored_at.Statement.{statement}
 use Rattle.lookup_why.proofs.stored_at.Tie as tie
-use Rattle.lookup_why.proofs.stored_at.Reads as reads
-use Rattle.lookup_why.proofs.stored_at.Lts as lts
-use Rattle.lookup_why.proofs.count_in.Reads as count-in-reads
 
 returns : tie.Need-returns
 returns c = none-stored _ _ _ (omega arith)

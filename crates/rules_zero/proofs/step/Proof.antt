@@ -8,12 +8,6 @@ use Rattle.rules_zero.proofs.Steps.{inside, step-leaf, step-one, step-f
 use borrow.Author.Needs.{needs}
 use Rattle.rules_zero.proofs.step.Statement.{statement}
 use Rattle.rules_zero.proofs.step.Tie as tie
-use Rattle.rules_zero.proofs.step.Reads as reads
-use Rattle.rules_zero.proofs.step.Lts as lts
-use Rattle.rules.proofs.place.Reads as place-reads
-use Rattle.rules_operators.proofs.settles.Reads as settles-reads
-use Rattle.rules_value.proofs.value_at.Reads as value-at-reads
-use Rattle.rules_zero.proofs.without.Reads as without-reads
 
 abbrev P : tie.Start → Pool
 P s = pool (now (s .args .codes)) (now (s .args .places)) (now (s .args .values))

@@ -7,10 +7,6 @@ use Rattle.rules_zero.proofs.Steps.{traces, zero-sound}
 use borrow.Author.Needs.{needs}
 use Rattle.rules_zero.proofs.trace.Statement.{statement}
 use Rattle.rules_zero.proofs.trace.Tie as tie
-use Rattle.rules_zero.proofs.trace.Reads as reads
-use Rattle.rules_zero.proofs.trace.Lts as lts
-use Rattle.rules_value.proofs.resolve.Reads as resolve-reads
-use Rattle.rules_zero.proofs.zero_at.Reads as zero-at-reads
 
 abbrev P : tie.Start → Pool
 P s = pool (now (s .args .codes)) (now (s .args .places)) (now (s .args .values))

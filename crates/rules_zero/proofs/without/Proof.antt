@@ -3,9 +3,6 @@ use Rattle.rules_zero.proofs.Steps.{without-by}
 use borrow.Author.Needs.{needs}
 use Rattle.rules_zero.proofs.without.Statement.{statement}
 use Rattle.rules_zero.proofs.without.Tie as tie
-use Rattle.rules_zero.proofs.without.Reads as reads
-use Rattle.rules_zero.proofs.without.Lts as lts
-use Rattle.rules_value.proofs.value_at.Reads as value-at-reads
 
 value-at-requires : tie.Need-value-at-requires
 value-at-requires c κs = search needs

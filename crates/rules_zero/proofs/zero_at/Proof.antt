@@ -1,16 +1,12 @@
 -- The loop's invariant: the node sought from the root is the one sought from here. The measure is the place. Assumes nothing.
 use mathlib.Core.Path.{_≡_, refl, sym, _∙_}
-use native.Mathlib.Omega.{arith}
 use denote.Ref.{now}
-use Rattle.rules.specs.Pool.{Pool, pool}
+use Rattle.rules.specs.Pool.{pool}
 use Rattle.rules.specs.Promise.{Sound}
 use Rattle.rules_zero.specs.Zero.{zeroAt}
 use Rattle.rules_zero.proofs.Steps.{step-down, zero-here, zero-on}
 use Rattle.rules_zero.proofs.zero_at.Statement.{statement}
 use Rattle.rules_zero.proofs.zero_at.Tie as tie
-use Rattle.rules_zero.proofs.zero_at.Reads as reads
-use Rattle.rules_zero.proofs.zero_at.Lts as lts
-use Rattle.rules_zero.proofs.step.Reads as step-reads
 
 abbrev Inv-loop : tie.InvT-loop
 Inv-loop codes places values root n at₀ at = Sound (pool codes places values) at × (zeroAt (pool codes places values) n root ≡ zeroAt (pool codes places values) n at)
