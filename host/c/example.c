@@ -75,5 +75,9 @@ int main(int argc, char **argv)
     if (rule.number == GR_OK && gr_span(&catalog, 0, 9, forms) == GR_OK) {
         printf("%.*s names form 0 for %llu of the counts 0 to 9\n", (int)rule.len, text, (unsigned long long)forms[0]);
     }
+
+    /* why is it this text? */
+    gr_explained why = gr_why_ngettext(file, size, &catalog, "%d page", 3);
+    printf("%s: entry %zu, form %llu, at byte %zu\n", gr_reason_name(why.kind), why.entry, (unsigned long long)why.form, why.start);
     return 0;
 }

@@ -136,6 +136,29 @@ typedef struct gr_written {
     size_t len;
 } gr_written;
 
+/* Why a plural lookup answers as it does: the first of these that holds. */
+enum gr_reason {
+    GR_STALE_LENGTH = 1,     /* the file has another length than the record says */
+    GR_NO_TREE = 2,          /* the nodes of the record's rule are no tree */
+    GR_ZERO_DIVISOR = 3,     /* the rule divides by zero, at node */
+    GR_NO_ENTRY = 4,         /* no entry has the key */
+    GR_TOO_FEW_SEGMENTS = 5, /* the last entry with the key stores so many forms, and the rule names form */
+    GR_ANSWERED = 6          /* the segment of entry for form, at start of the file, of len bytes */
+};
+
+/* A reason, and what the lookup answers, which is a function of it: number and which are as in gr_answer. What a reason does not tell is 0. */
+typedef struct gr_explained {
+    uint32_t kind;
+    uint32_t number;
+    uint32_t which;
+    size_t node; /* the place of the / or % in the record's own nodes, or of the node that it is packed into */
+    size_t entry;
+    size_t stored;
+    uint64_t form;
+    size_t start; /* from the file's first byte */
+    size_t len;
+} gr_explained;
+
 /* A layout that the library does not share does not compile: an array of a negative size. */
 #define GR_LAYOUT(name, holds) typedef char gr_layout_of_##name[(holds) ? 1 : -1]
 GR_LAYOUT(size_t, sizeof(size_t) == 8);
@@ -150,6 +173,7 @@ GR_LAYOUT(gr_answer, sizeof(gr_answer) == 40);
 GR_LAYOUT(gr_range, sizeof(gr_range) == 24);
 GR_LAYOUT(gr_fit, sizeof(gr_fit) == 8);
 GR_LAYOUT(gr_form, sizeof(gr_form) == 16);
+GR_LAYOUT(gr_explained, sizeof(gr_explained) == 64);
 
 /*
  * The exported functions, as the library has them: pointers and lengths, none of them null, also where the length is 0. A host rather calls
@@ -186,6 +210,11 @@ uint32_t gettext_c_span(const gr_head *head, const uint8_t codes[512], const uin
                         uint64_t b, uint64_t figures[18]);
 gr_written gettext_c_text(const gr_head *head, const uint8_t codes[512], const uint16_t places[1024], const uint64_t values[512],
                           uint8_t *buffer, size_t buffer_len);
+gr_explained gettext_c_why_ngettext(const uint8_t *file, size_t file_len, const gr_head *head, const uint8_t codes[512],
+                                    const uint16_t places[1024], const uint64_t values[512], const uint8_t *id, size_t id_len, uint64_t n);
+gr_explained gettext_c_why_npgettext(const uint8_t *file, size_t file_len, const gr_head *head, const uint8_t codes[512],
+                                     const uint16_t places[1024], const uint64_t values[512], const uint8_t *context, size_t context_len,
+                                     const uint8_t *id, size_t id_len, uint64_t n);
 uint32_t gettext_c_is_utf8(const uint8_t *text, size_t text_len);
 uint64_t gettext_c_cost(const uint8_t *file, size_t file_len);
 
@@ -328,6 +357,41 @@ static inline gr_text gr_npgettext(const void *file, size_t file_len, const gr_r
     gr_answer a = gettext_c_npgettext(gr_bytes(file), gr_size(file, file_len), &r->head, r->codes, r->places, r->values,
                                       gr_bytes(context), gr_length(context), gr_bytes(id), gr_length(id), n);
     return gr_text_of(a, file, id, plural_id);
+}
+
+/* Why gr_ngettext and gr_npgettext of the same answer as they do; the text that they give is gr_text_why's. */
+static inline gr_explained gr_why_ngettext(const void *file, size_t file_len, const gr_record *r, const char *id, uint64_t n)
+{
+    return gettext_c_why_ngettext(gr_bytes(file), gr_size(file, file_len), &r->head, r->codes, r->places, r->values, gr_bytes(id),
+                                  gr_length(id), n);
+}
+
+static inline gr_explained gr_why_npgettext(const void *file, size_t file_len, const gr_record *r, const char *context, const char *id,
+                                            uint64_t n)
+{
+    return gettext_c_why_npgettext(gr_bytes(file), gr_size(file, file_len), &r->head, r->codes, r->places, r->values, gr_bytes(context),
+                                   gr_length(context), gr_bytes(id), gr_length(id), n);
+}
+
+/* The text that a reason leads to. */
+static inline gr_text gr_text_why(gr_explained w, const void *file, const char *id, const char *plural_id)
+{
+    gr_answer a = {w.number, w.which, w.entry, w.form, w.start, w.len};
+    return gr_text_of(a, file, id, plural_id);
+}
+
+/* The name of a reason, for people. */
+static inline const char *gr_reason_name(uint32_t kind)
+{
+    switch (kind) {
+    case GR_STALE_LENGTH: return "the file has another length than the record says";
+    case GR_NO_TREE: return "the nodes of the record's rule are no tree";
+    case GR_ZERO_DIVISOR: return "the rule divides by zero";
+    case GR_NO_ENTRY: return "no entry has this id";
+    case GR_TOO_FEW_SEGMENTS: return "the entry has fewer forms than the rule names";
+    case GR_ANSWERED: return "answered";
+    default: return "no such reason";
+    }
 }
 
 /*

@@ -363,8 +363,42 @@ static void spans(void)
     free(g);
 }
 
+/* A case for each reason, and the text that it leads to. */
+static void reasons(void)
+{
+    uint8_t *g = copy(50);
+    gr_record r;
+    gr_explained w;
+    CHECK(gr_load(g, 50, with("n!=1", GR_STANDARD), &r) == GR_OK);
+    w = gr_why_ngettext(g, 50, &r, "a", 2);
+    CHECK(w.kind == GR_ANSWERED && w.number == GR_OK && w.entry == 0 && w.form == 1 && w.start == 48 && w.len == 1 && w.stored == 0);
+    CHECK(is(gr_text_why(w, g, "a", "as"), GR_OK, "c") && is(gr_ngettext(g, 50, &r, "a", "as", 2), GR_OK, "c"));
+    w = gr_why_ngettext(g, 50, &r, "z", 1);
+    CHECK(w.kind == GR_NO_ENTRY && w.number == GR_OK && is(gr_text_why(w, g, "z", "zs"), GR_OK, "z"));
+    w = gr_why_npgettext(g, 50, &r, "x", "a", 2);
+    CHECK(w.kind == GR_NO_ENTRY && w.number == GR_OK && is(gr_text_why(w, g, "a", "as"), GR_OK, "as"));
+    w = gr_why_ngettext(g, 49, &r, "a", 2);
+    CHECK(w.kind == GR_STALE_LENGTH && w.number == GR_BAD_RECORD && is(gr_text_why(w, g, "a", "as"), GR_BAD_RECORD, "as"));
+    CHECK(gr_load(g, 50, with("n+1", GR_STANDARD), &r) == GR_OK);
+    w = gr_why_ngettext(g, 50, &r, "a", 1);
+    CHECK(w.kind == GR_TOO_FEW_SEGMENTS && w.number == GR_OK && w.entry == 0 && w.stored == 2 && w.form == 2 && w.start == 0);
+    CHECK(is(gr_text_why(w, g, "a", "as"), GR_OK, "a"));
+    /* nodes: 0 is 5, 1 is n, 2 is the / between them, 3 the ! above */
+    CHECK(gr_load(g, 50, with("!(5/n)", GR_STANDARD), &r) == GR_OK && r.head.nodes == 4);
+    w = gr_why_ngettext(g, 50, &r, "a", 0);
+    CHECK(w.kind == GR_ZERO_DIVISOR && w.number == GR_ZERO_MODULUS && w.node == 2 && w.entry == 0);
+    CHECK(is(gr_text_why(w, g, "a", "as"), GR_ZERO_MODULUS, "as"));
+    r.head.root = 512;
+    w = gr_why_ngettext(g, 50, &r, "a", 0);
+    CHECK(w.kind == GR_NO_TREE && w.number == GR_BAD_RECORD && w.which == GR_PLURAL_ID);
+    CHECK(gr_why_ngettext(NULL, 50, &r, "a", 0).kind == GR_STALE_LENGTH);
+    CHECK(strcmp(gr_reason_name(GR_ZERO_DIVISOR), "the rule divides by zero") == 0 && strcmp(gr_reason_name(0), "no such reason") == 0);
+    free(g);
+}
+
 int main(void)
 {
+    reasons();
     nulls();
     spans();
     texts();

@@ -5,7 +5,7 @@ use crate::make;
 use crate::rattle::{Answer, Node, Ours, Part, Record};
 use crate::rng::Rng;
 
-fn is_tree(r: &Record) -> bool {
+pub fn is_tree(r: &Record) -> bool {
     if r.head.nodes > 512 || r.head.root >= r.head.nodes {
         return false;
     }
@@ -96,7 +96,7 @@ pub fn entry<'a>(file: &'a [u8], r: &Record, i: usize) -> Option<(&'a [u8], usiz
 }
 
 // The last entry with the key.
-fn last(file: &[u8], r: &Record, key: &[u8]) -> Option<usize> {
+pub fn last(file: &[u8], r: &Record, key: &[u8]) -> Option<usize> {
     // entries past these have no cell in the file
     let most = low(r.head.count).min(file.len() / 8 + 1);
     (0..most).rev().find(|&i| entry(file, r, i).map_or(false, |found| found.0 == key))
@@ -131,10 +131,10 @@ pub fn answer(file: &[u8], r: &Record, n: Option<u64>, too_few: bool, find: impl
     caller(0)
 }
 
-// Codes that a record may have.
-const CODES: [u8; 42] = [
-    0, 1, 16, 17, 18, 19, 20, 21, 22, 23, 24, 32, 33, 34, 35, 36, 37, 38, 39, 40, 48, 49, 64, 65, 66, 67, 68, 69, 70, 71, 72, 80, 81, 82, 83,
-    84, 85, 86, 87, 88, 96, 112,
+// Codes that a record may have, those of leaves first.
+const CODES: [u8; 58] = [
+    0, 1, 16, 17, 18, 19, 20, 21, 22, 23, 24, 25, 26, 27, 28, 32, 33, 34, 35, 36, 37, 38, 39, 40, 41, 42, 43, 44, 48, 49, 64, 65, 66, 67,
+    68, 69, 70, 71, 72, 73, 74, 75, 76, 80, 81, 82, 83, 84, 85, 86, 87, 88, 89, 90, 91, 92, 96, 112,
 ];
 
 // A few nodes made anew: any codes and fields, near trees for the most part. One code in a few is any of the 256.
@@ -143,7 +143,7 @@ fn alter_rule(rng: &mut Rng, r: &mut Record) {
         r.head.nodes = 1 + rng.below(9);
         let any = if rng.one_in(3) { rng.below(r.head.nodes) } else { 512 };
         for p in 0..r.head.nodes {
-            r.codes[p] = if p == 0 || rng.one_in(3) { CODES[rng.below(20)] } else { *rng.pick(&CODES) };
+            r.codes[p] = if p == 0 || rng.one_in(3) { CODES[rng.below(28)] } else { *rng.pick(&CODES) };
             if p == any {
                 r.codes[p] = rng.below(256) as u8;
             }
@@ -243,6 +243,7 @@ impl Oracle {
             if (one, many) != wanted {
                 return told(format!("key {} at {n}: {:?}, by the model {wanted:?}", hex(&key), (one, many)));
             }
+            self.why(file, &ours, None, id, n, many).or_else(told)?;
             // the same with the key's context apart
             if let Some(four) = key.iter().position(|&b| b == 4) {
                 let context = self.lent.context.put(&key[..four], rng.one_in(2));
@@ -252,6 +253,7 @@ impl Oracle {
                 if apart != wanted {
                     return told(format!("key {} apart at {n}: {apart:?}, by the model {wanted:?}", hex(&key)));
                 }
+                self.why(file, &ours, Some(context), id, n, apart.1).or_else(told)?;
             }
         }
         self.altered_slots(rng, file, &ours, &keys).or_else(told)?;

@@ -118,6 +118,8 @@ pub struct Stats {
     // refused loads by the side that they name, 0 none
     pub places: [u64; 5],
     pub numbers: [u64; 12],
+    // reasons by their kind, 1 to 6
+    pub reasons: [u64; 7],
     // each kind of explained difference: how often, and its shortest header or rule
     pub kinds: BTreeMap<String, (u64, Vec<u8>)>,
 }
@@ -132,6 +134,9 @@ impl Stats {
             *sum += x;
         }
         for (sum, x) in self.numbers.iter_mut().zip(other.numbers) {
+            *sum += x;
+        }
+        for (sum, x) in self.reasons.iter_mut().zip(other.reasons) {
             *sum += x;
         }
         for (kind, (times, example)) in other.kinds {
@@ -574,6 +579,7 @@ impl Oracle {
             if !same(texts, id, plural, Some(n), answer, text) || !placed(file, key, form, answer) {
                 return Err(told("ngettext", b"", Some(n), answer, text));
             }
+            self.why(file, ours, None, id, n, answer)?;
             self.zero(texts, answer);
         }
         let fours: Vec<usize> = (0..key.len()).filter(|&i| key[i] == 4).take(3).collect();
@@ -601,6 +607,7 @@ impl Oracle {
                 if !same(texts, id, plural, Some(n), answer, text) || !placed(file, &whole, form, answer) {
                     return Err(told("npgettext", context, Some(n), answer, text));
                 }
+                self.why(file, ours, Some(context), id, n, answer)?;
                 self.zero(texts, answer);
             }
         }

@@ -10,6 +10,7 @@ mod rattle;
 mod rng;
 mod sample;
 mod shrink;
+mod why;
 mod written;
 
 use compare::{hex, Depth, Oracle, Stats, CASE, QUIET};
@@ -178,13 +179,14 @@ fn summary(part: &str, stats: &Stats, differ: u64, start: Instant) -> bool {
         println!("  explained {times}: {kind}; shortest: {}", shrink::example(kind, example));
     }
     println!(
-        "{part}: {} cases, {} lookups, {} values, {} indexes; refused by side {:?}; agreed by number {:?}; {} explained, {differ} differ",
+        "{part}: {} cases, {} lookups, {} values, {} indexes; refused by side {:?}; agreed by number {:?}; by reason {:?}; {} explained, {differ} differ",
         stats.cases,
         stats.lookups,
         stats.values,
         stats.indexes,
         stats.places,
         stats.numbers,
+        &stats.reasons[1..],
         stats.kinds.values().map(|(times, _)| times).sum::<u64>(),
     );
     let seconds = start.elapsed().as_secs_f64();

@@ -7,7 +7,7 @@ use std::ffi::{c_char, c_int, c_long, c_uint, c_void};
 #[allow(dead_code)]
 #[path = "../../host/rust/src/ffi.rs"]
 mod ffi;
-pub use ffi::{cost, empty, is_utf8, Answer, Record};
+pub use ffi::{cost, empty, is_utf8, Answer, Explained, Record};
 use ffi::{Fits, Form, Rating};
 
 extern "C" {
@@ -203,6 +203,10 @@ impl<'a> Ours<'a> {
 
     pub fn slots(&self) -> usize {
         ffi::slots(self.catalog)
+    }
+
+    pub fn why(&self, file: &[u8], context: Option<&[u8]>, id: &[u8], n: u64) -> Explained {
+        ffi::why(file, self.catalog, context, id, n)
     }
 
     pub fn resolve_at(&self, n: u64) -> Form {

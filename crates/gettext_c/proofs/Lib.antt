@@ -4,3 +4,4 @@ pub mod Right
 pub mod Demands
 pub mod Unique
 pub mod Indexed
+pub mod Why

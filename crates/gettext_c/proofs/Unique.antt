@@ -22,6 +22,10 @@ use Rattle.gettext_c.proofs.gettext_c_ngettext.Reads as ngettext
 use Rattle.gettext_c.proofs.gettext_c_ngettext.Kinds as ngettext-kinds
 use Rattle.gettext_c.proofs.gettext_c_npgettext.Reads as npgettext
 use Rattle.gettext_c.proofs.gettext_c_npgettext.Kinds as npgettext-kinds
+use Rattle.gettext_c.proofs.gettext_c_why_ngettext.Reads as why-ngettext
+use Rattle.gettext_c.proofs.gettext_c_why_ngettext.Kinds as why-ngettext-kinds
+use Rattle.gettext_c.proofs.gettext_c_why_npgettext.Reads as why-npgettext
+use Rattle.gettext_c.proofs.gettext_c_why_npgettext.Kinds as why-npgettext-kinds
 use Rattle.gettext_c.proofs.gettext_c_rating.Reads as rating
 use Rattle.gettext_c.proofs.gettext_c_rating.Kinds as rating-kinds
 use Rattle.gettext_c.proofs.gettext_c_fits.Reads as fits
@@ -82,6 +86,12 @@ ngettext-one κs a u v x y p q = p ∙ sym q
 
 pub npgettext-one : One 1 npgettext-kinds.ps npgettext-kinds.r npgettext.Post
 npgettext-one κs a u v x y p q = p ∙ sym q
+
+pub why-ngettext-one : One 1 why-ngettext-kinds.ps why-ngettext-kinds.r why-ngettext.Post
+why-ngettext-one κs a u v x y p q = p ∙ sym q
+
+pub why-npgettext-one : One 1 why-npgettext-kinds.ps why-npgettext-kinds.r why-npgettext.Post
+why-npgettext-one κs a u v x y p q = p ∙ sym q
 
 pub rating-one : One 1 rating-kinds.ps rating-kinds.r rating.Post
 rating-one κs a u v x y p q = p ∙ sym q

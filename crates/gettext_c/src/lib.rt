@@ -2,6 +2,7 @@
 // name from its own memory. A record is what the host keeps of a load: its head, seven numbers, and the three arrays of its rule's nodes,
 // which a load writes and every other function only reads.
 use host::Answer;
+use host::Explained;
 use host::Fits;
 use host::Form;
 use host::Loaded;
@@ -22,6 +23,8 @@ ghost use Rattle.lookup_slots.specs.Used.{used};
 ghost use Rattle.container.specs.Catalog.{load};
 ghost use Rattle.container_cost.specs.Cost.{cost};
 ghost use Rattle.host.specs.Host.{optionsOf, tablesIn, nodesIn, rootIn, answerOf, ownFor, ratingOf, fitsOf, valueOf};
+ghost use Rattle.host.specs.Explained.{explainedOf};
+ghost use Rattle.gettext_c.specs.Why.{whyCounted};
 ghost use Rattle.gettext_c.specs.Record.{Loads, IsEmpty, Indexes, found, counted, foundIn, countedIn, Writes};
 
 // The empty catalog.
@@ -366,4 +369,69 @@ pub extern "C" fn gettext_c_cost(file: &[u8]) -> u64
     ensures { λ r. ⌜ r ≡ cost (now (file .entry)) ⌝ }
 {
     container_cost::cost(file)
+}
+
+// Why `gettext_c_ngettext` of the same answers as it does.
+#[no_mangle]
+pub extern "C" fn gettext_c_why_ngettext<'a>(
+    file: &'a [u8],
+    head: &'a [usize; 7],
+    codes: &'a [u8; 512],
+    places: &'a [u16; 1024],
+    values: &'a [u64; 512],
+    id: &'a [u8],
+    n: u64,
+) -> Explained
+    ensures { λ r. ⌜ r ≡ explainedOf (ownFor n) (whyCounted (now (file .entry)) (now (head .entry))
+        (pool (now (codes .entry)) (now (places .entry)) (now (values .entry))) (now (id .entry)) n) ⌝ }
+{
+    let nodes = head[5];
+    let root = head[6];
+    let why = lookup_why::explain(
+        file,
+        tables_in(head),
+        codes,
+        places,
+        values,
+        nodes,
+        root,
+        false,
+        id,
+        id,
+        n,
+    );
+    host::explained_of(why, host::own_for(n))
+}
+
+// Why `gettext_c_npgettext` of the same answers as it does.
+#[no_mangle]
+pub extern "C" fn gettext_c_why_npgettext<'a>(
+    file: &'a [u8],
+    head: &'a [usize; 7],
+    codes: &'a [u8; 512],
+    places: &'a [u16; 1024],
+    values: &'a [u64; 512],
+    context: &'a [u8],
+    id: &'a [u8],
+    n: u64,
+) -> Explained
+    ensures { λ r. ⌜ r ≡ explainedOf (ownFor n) (whyCounted (now (file .entry)) (now (head .entry))
+        (pool (now (codes .entry)) (now (places .entry)) (now (values .entry))) (keyOf true (now (context .entry)) (now (id .entry))) n) ⌝ }
+{
+    let nodes = head[5];
+    let root = head[6];
+    let why = lookup_why::explain(
+        file,
+        tables_in(head),
+        codes,
+        places,
+        values,
+        nodes,
+        root,
+        true,
+        context,
+        id,
+        n,
+    );
+    host::explained_of(why, host::own_for(n))
 }

@@ -16,6 +16,8 @@ use Rattle.host.proofs.own_for.Reads as own-for
 use Rattle.host.proofs.own_for.Kinds as own-for-kinds
 use Rattle.host.proofs.answer_of.Reads as answer-of
 use Rattle.host.proofs.answer_of.Kinds as answer-of-kinds
+use Rattle.host.proofs.explained_of.Reads as explained-of
+use Rattle.host.proofs.explained_of.Kinds as explained-of-kinds
 use Rattle.host.proofs.rating_of.Reads as rating-of
 use Rattle.host.proofs.rating_of.Kinds as rating-of-kinds
 use Rattle.host.proofs.fits_of.Reads as fits-of
@@ -45,6 +47,9 @@ own-for-one κs a u v x y p q = p ∙ sym q
 
 pub answer-of-one : One 0 answer-of-kinds.ps answer-of-kinds.r answer-of.Post
 answer-of-one κs a u v x y p q = p ∙ sym q
+
+pub explained-of-one : One 0 explained-of-kinds.ps explained-of-kinds.r explained-of.Post
+explained-of-one κs a u v x y p q = p ∙ sym q
 
 pub rating-of-one : One 0 rating-of-kinds.ps rating-of-kinds.r rating-of.Post
 rating-of-one κs a u v x y p q = p ∙ sym q

@@ -4,6 +4,7 @@ use container::Loading;
 use container::Options;
 use container_layout::Tables;
 use lookup::Reason;
+use lookup_why::Why;
 use reading_rule::Reading;
 use refusal::Error;
 use rules::Fit;
@@ -13,6 +14,7 @@ use rules_text::Writing;
 ghost use mathlib.Core.Path.{_≡_};
 ghost use Prim.Native.Nat.{_<_, _%_};
 ghost use Rattle.rules.specs.Value.{truth};
+ghost use Rattle.host.specs.Explained.{leftOwn, explainedOf};
 ghost use Rattle.host.specs.Host.{isSet, readingOf, optionsOf, headOf, tablesIn, loadedOf, ownFor, fallback, answerOf, ratingOf, fitsOf, valueOf, writtenOf};
 
 // How a load went: the number; where a refused one failed, the side (0 none, 1 original, 2 translation, 3 header, 4 rule), whether (1) an entry
@@ -270,6 +272,79 @@ pub fn written_of(writing: Writing) -> Written
         Writing::NoTree => Written {
             number: refusal::number_of(Error::BadRecord),
             len: 0,
+        },
+    }
+}
+
+// Why a lookup with a count answers as it does, and its answer: the kind, which is the reason's place in `lookup_why::Why`, from 1 on; the
+// number, and which text, as in `Answer`; then what the reason tells, 0 where it does not.
+#[repr(C)]
+pub struct Explained {
+    pub kind: u32,
+    pub number: u32,
+    pub which: u32,
+    pub node: usize,
+    pub entry: usize,
+    pub stored: usize,
+    pub form: u64,
+    pub start: usize,
+    pub len: usize,
+}
+
+// A reason that leaves the caller's own text, with what it tells.
+fn left_own(
+    kind: u32,
+    number: u32,
+    own: u32,
+    node: usize,
+    entry: usize,
+    stored: usize,
+    form: u64,
+) -> Explained
+    ensures { λ r. ⌜ r ≡ leftOwn kind number own node entry stored form ⌝ }
+{
+    Explained {
+        kind,
+        number,
+        which: own,
+        node,
+        entry,
+        stored,
+        form,
+        start: 0,
+        len: 0,
+    }
+}
+
+// The reason in numbers; `own` is the caller's own text.
+pub fn explained_of(why: Why, own: u32) -> Explained
+    ensures { λ r. ⌜ r ≡ explainedOf own why ⌝ }
+{
+    let number = lookup::number_of(lookup_why::reason_of(why));
+    match why {
+        Why::StaleLength => left_own(1, number, own, 0, 0, 0, 0),
+        Why::NoTree => left_own(2, number, own, 0, 0, 0, 0),
+        Why::ZeroDivisor(node) => left_own(3, number, own, node, 0, 0, 0),
+        Why::NoEntry => left_own(4, number, own, 0, 0, 0, 0),
+        Why::TooFewSegments(entry, stored, form) => left_own(
+            5,
+            number,
+            own,
+            0,
+            entry,
+            stored,
+            form,
+        ),
+        Why::Answered(entry, form, start, len) => Explained {
+            kind: 6,
+            number,
+            which: 0,
+            node: 0,
+            entry,
+            stored: 0,
+            form,
+            start,
+            len,
         },
     }
 }

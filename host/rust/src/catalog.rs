@@ -1,6 +1,6 @@
 //! Catalogs and their lookups.
 
-use crate::{ffi, Bytes, Error, Live, ParseOptions, Scan, Search, Status};
+use crate::{ffi, Bytes, Error, Live, ParseOptions, Reason, Scan, Search, Status, Why};
 use std::fmt;
 use std::io::Read;
 use std::ops::RangeInclusive;
@@ -356,6 +356,54 @@ impl<B: Bytes, S: Search> Catalog<B, S> {
             n,
         );
         self.bytes(answer, msg_id, msg_id_plural)
+    }
+
+    /// Why [`Catalog::ngettext`] gives its text, and the text. It passes over the entries, also where the catalog has an index: the answer is
+    /// the same.
+    #[must_use]
+    pub fn why_ngettext<'c, 't>(
+        &'c self,
+        msg_id: &'t str,
+        msg_id_plural: &'t str,
+        n: u64,
+    ) -> Why<'t>
+    where
+        B: Live<'c, 't>,
+    {
+        self.why(None, msg_id, msg_id_plural, n)
+    }
+
+    /// Why [`Catalog::npgettext`] gives its text, and the text.
+    #[must_use]
+    pub fn why_npgettext<'c, 't>(
+        &'c self,
+        msg_context: &str,
+        msg_id: &'t str,
+        msg_id_plural: &'t str,
+        n: u64,
+    ) -> Why<'t>
+    where
+        B: Live<'c, 't>,
+    {
+        self.why(Some(msg_context.as_bytes()), msg_id, msg_id_plural, n)
+    }
+
+    // The answer is the lookup's own, so that `text` may take its segment: `why-ngettext` and `why-npgettext`, crates/gettext_c/proofs/Why.antt.
+    fn why<'c, 't>(
+        &'c self,
+        context: Option<&[u8]>,
+        id: &'t str,
+        plural_id: &'t str,
+        n: u64,
+    ) -> Why<'t>
+    where
+        B: Live<'c, 't>,
+    {
+        let why = ffi::why(self.file.bytes(), &self.record, context, id.as_bytes(), n);
+        Why {
+            reason: Reason::of(&why, n),
+            answer: self.text(why.answer(), id, plural_id),
+        }
     }
 
     /// The lowest and the highest form that the plural rule can name, or `None` where the rule is not rated: then it may take a

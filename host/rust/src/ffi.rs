@@ -89,6 +89,36 @@ pub struct Written {
     pub len: usize,
 }
 
+/// Why a plural lookup answers as it does, by its kind, and what it answers.
+#[repr(C)]
+#[derive(Clone, Copy, Debug, PartialEq)]
+pub struct Explained {
+    pub kind: u32,
+    pub number: u32,
+    pub which: u32,
+    pub node: usize,
+    pub entry: usize,
+    pub stored: usize,
+    pub form: u64,
+    pub start: usize,
+    pub len: usize,
+}
+
+impl Explained {
+    /// The lookup's answer, a function of the reason: proved, `why-ngettext` and `why-npgettext`, crates/gettext_c/proofs/Why.antt.
+    pub fn answer(&self) -> Answer {
+        let answered = self.kind == 6;
+        Answer {
+            number: self.number,
+            which: self.which,
+            entry: if answered { self.entry } else { 0 },
+            form: if answered { self.form } else { 0 },
+            start: self.start,
+            len: self.len,
+        }
+    }
+}
+
 const _: () = assert!(size_of::<Head>() == 56);
 const _: () = assert!(size_of::<Record>() == 6712);
 const _: () = assert!(size_of::<Loaded>() == 80);
@@ -96,6 +126,7 @@ const _: () = assert!(size_of::<Answer>() == 40);
 const _: () = assert!(size_of::<Rating>() == 24);
 const _: () = assert!(size_of::<Fits>() == 8);
 const _: () = assert!(size_of::<Form>() == 16);
+const _: () = assert!(size_of::<Explained>() == 64);
 
 extern "C" {
     fn gettext_c_empty(
@@ -248,6 +279,30 @@ extern "C" {
         buffer: *mut u8,
         buffer_len: usize,
     ) -> Written;
+    fn gettext_c_why_ngettext(
+        file: *const u8,
+        file_len: usize,
+        head: *const Head,
+        codes: *const [u8; 512],
+        places: *const [u16; 1024],
+        values: *const [u64; 512],
+        id: *const u8,
+        id_len: usize,
+        n: u64,
+    ) -> Explained;
+    fn gettext_c_why_npgettext(
+        file: *const u8,
+        file_len: usize,
+        head: *const Head,
+        codes: *const [u8; 512],
+        places: *const [u16; 1024],
+        values: *const [u64; 512],
+        context: *const u8,
+        context_len: usize,
+        id: *const u8,
+        id_len: usize,
+        n: u64,
+    ) -> Explained;
     fn gettext_c_is_utf8(text: *const u8, text_len: usize) -> u32;
     fn gettext_c_cost(file: *const u8, file_len: usize) -> u64;
 }
@@ -456,6 +511,43 @@ pub fn npgettext(
                 &r.head,
                 slots.as_ptr(),
                 slots.len(),
+                &r.codes,
+                &r.places,
+                &r.values,
+                context.as_ptr(),
+                context.len(),
+                id.as_ptr(),
+                id.len(),
+                n,
+            )
+        },
+    }
+}
+
+/// Why a plural lookup answers as it does, by the scan.
+pub fn why(file: &[u8], r: &Record, context: Option<&[u8]>, id: &[u8], n: u64) -> Explained {
+    let (bytes, size) = (file.as_ptr(), file.len());
+    match context {
+        // SAFETY: see above.
+        None => unsafe {
+            gettext_c_why_ngettext(
+                bytes,
+                size,
+                &r.head,
+                &r.codes,
+                &r.places,
+                &r.values,
+                id.as_ptr(),
+                id.len(),
+                n,
+            )
+        },
+        // SAFETY: see above.
+        Some(context) => unsafe {
+            gettext_c_why_npgettext(
+                bytes,
+                size,
+                &r.head,
                 &r.codes,
                 &r.places,
                 &r.values,

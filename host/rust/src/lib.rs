@@ -26,6 +26,11 @@
 //! assert_eq!(catalog.rule_text()?, "(n!=1)");
 //! assert_eq!(catalog.forms_over(0..=9)?.of(0), Some(1));
 //!
+//! // why did I get this text?
+//! let why = catalog.why_ngettext("%d page", "%d pages", 3);
+//! assert_eq!(why.answer.text, "%d Seiten");
+//! assert_eq!(why.reason.to_string(), "entry 1, form 1, at byte 378 of the file");
+//!
 //! // a refusal that says where
 //! let cut = ParseOptions::new().located().parse_slice(&file[..400]);
 //! assert_eq!(cut.unwrap_err().to_string(), "unexpected end of file, entry 2, translation");
@@ -52,12 +57,14 @@ mod error;
 mod ffi;
 mod index;
 mod options;
+mod reason;
 
 pub use bytes::{Bytes, Live};
 pub use catalog::{Answer, Catalog, Forms, Which};
 pub use error::{Error, Refusal, Side, Status};
 pub use index::{Scan, Search};
 pub use options::{Located, ParseOptions, Reading};
+pub use reason::{Reason, Why};
 
 /// Whether a text is UTF-8 by RFC 3629, as loading tests it.
 #[must_use]

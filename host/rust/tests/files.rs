@@ -2,7 +2,7 @@
 //! here.
 
 use gettext_rattle::{
-    cost, is_utf8, Catalog, Error, ParseOptions, Reading, Refusal, Side, Status, Which,
+    cost, is_utf8, Catalog, Error, ParseOptions, Reading, Reason, Refusal, Side, Status, Which,
 };
 use std::collections::HashMap;
 use std::fs::File;
@@ -951,4 +951,93 @@ fn the_text_of_a_rule() {
     assert_eq!(halves.rule_text().unwrap(), "((n+1)/2)");
     let deep = with(Reading::Standard, &("!".repeat(400) + "n"));
     assert!(matches!(deep.rule_text(), Err(Error::RuleTooLong)));
+}
+
+#[test]
+fn why_did_i_get_this_text() {
+    let file = made(&[(b"a", b"x"), (b"a", b"b\0c"), (b"m\x04a", b"d\0\0f")]);
+    let under = |rule| {
+        ParseOptions::new()
+            .force_plural(rule)
+            .reading(Reading::Standard)
+            .parse_slice(&file)
+            .unwrap()
+    };
+    let catalog = under("n");
+
+    // the last entry with the key counts; the place is counted from the file's first byte
+    let why = catalog.why_ngettext("a", "as", 1);
+    let offset = file.len() - 5 - 2;
+    assert_eq!(file[offset..offset + 2], *b"c\0");
+    let reason = Reason::Answered {
+        entry: 1,
+        form: 1,
+        offset,
+    };
+    assert_eq!((why.reason, why.answer.text), (reason, "c"));
+    assert_eq!(
+        why.reason.to_string(),
+        format!("entry 1, form 1, at byte {offset} of the file")
+    );
+
+    // its forms are counted, and no other entry's
+    let why = catalog.why_ngettext("a", "as", 2);
+    assert_eq!(
+        why.reason.to_string(),
+        "entry 1 has 2 forms, the rule names form 2"
+    );
+    assert_eq!(
+        (why.answer.text, why.answer.status),
+        ("as", Status::Answered)
+    );
+    let why = catalog.why_npgettext("m", "a", "as", 2);
+    assert_eq!(why.answer.text, "f");
+    let why = catalog.why_npgettext("m", "a", "as", 3);
+    assert_eq!(
+        why.reason.to_string(),
+        "entry 2 has 3 forms, the rule names form 3"
+    );
+    let why = catalog.why_ngettext("z", "zs", 1);
+    assert_eq!((why.reason, why.answer.text), (Reason::NoEntry, "z"));
+    assert_eq!(why.reason.to_string(), "no entry has this id");
+    assert_eq!(
+        catalog.why_npgettext("m", "z", "zs", 2).reason,
+        Reason::NoEntry
+    );
+
+    // a zero divisor comes before the key; the node is that of the operator that met it first
+    for (rule, n, node) in [
+        ("5%n", 0, 2),
+        ("n%0", 7, 0),
+        ("n%10==0 || 5/(n-5) ? 1 : 2", 5, 3),
+        ("(1/n)/(n%0)", 0, 2),
+        ("1/(n%0)", 3, 1),
+        ("0*(1/n)", 0, 3),
+        ("n%0/3", 2, 0),
+    ] {
+        let catalog = under(rule);
+        for id in ["a", "z"] {
+            let why = catalog.why_ngettext(id, "as", n);
+            assert_eq!(why.reason, Reason::ZeroDivisor { n, node }, "{rule}");
+            assert_eq!(
+                (why.answer.text, why.answer.status),
+                ("as", Status::ZeroModulus)
+            );
+        }
+    }
+    assert_eq!(
+        under("n%10==0 || 5/(n-5) ? 1 : 2")
+            .why_ngettext("a", "as", 5)
+            .reason
+            .to_string(),
+        "the rule divides by zero at n = 5 (node 3)"
+    );
+
+    // with an index it says the same
+    let indexed = under("n").indexed();
+    for n in 0..4 {
+        let why = indexed.why_ngettext("a", "as", n);
+        assert_eq!(why, catalog.why_ngettext("a", "as", n));
+        assert_eq!(why.answer, indexed.answer_ngettext("a", "as", n));
+    }
 }

@@ -1,0 +1,5 @@
+mod Counted
+mod Reasons
+pub mod True
+pub mod Unique
+mod Cases
