@@ -1,4 +1,5 @@
--- Files of document 01, "Files and rules to try", computed from the definition: the first three are those that it stars. Assumes nothing.
+-- Files of document 01, "Files and rules to try", computed from the definition; those that it stars are in the table of crate `starred`. Assumes
+-- nothing.
 use Prim.Native.Nat.{ℕ}
 use mathlib.Core.Path.{_≡_, refl}
 use mathlib.Core.Bool.{false}
@@ -51,8 +52,6 @@ row s n k = record { file = s; number = n; count = k }
 abbrev pub rows : List Row
 rows =
     row fileF 0 1
-    ∷ row (take 47 fileF) 1 0
-    ∷ row (take 27 fileF) 1 0
     -- the byte after a translation is not looked at; the one after an original ends the id
     ∷ row (set fileF 47 0x7a) 0 1
     ∷ row (set fileF 45 0x62) 1 0
