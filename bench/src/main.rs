@@ -7,6 +7,7 @@ use std::hint::black_box;
 use std::path::Path;
 use std::time::Instant;
 
+mod alone;
 mod count;
 // the static library's own functions, as the host crate declares them
 #[allow(dead_code)]
@@ -15,6 +16,16 @@ mod ffi;
 mod files;
 mod glibc;
 mod plot;
+// the crate's own src/plurals.rs, which takes the error from a module of this name (build.rs)
+#[cfg(evaluation_alone)]
+mod parser {
+    pub use gettext::Error;
+}
+#[cfg(evaluation_alone)]
+#[allow(dead_code)]
+mod plurals {
+    include!(env!("GETTEXT_PLURALS"));
+}
 
 use files::{generated, in_context, real, Message};
 
@@ -273,6 +284,33 @@ fn span(rows: &mut Vec<Row>) {
     rows.push(faster("form counts", "Russian, Shipped, 1000000 counts, a count".into(), "ns", mine, theirs, "crate"));
 }
 
+// The same beside the crate's evaluation alone, of the very tree.
+fn span_alone(rows: &mut Vec<Row>) {
+    use gettext_rattle::Reading::{Shipped, Standard};
+    let (_, file) = generated(0, RUSSIAN);
+    for (reading, called) in [(Shipped, "Shipped"), (Standard, "Standard")] {
+        let ours = gettext_rattle::ParseOptions::new().reading(reading).parse_slice(&file).expect("it loads");
+        let Some(form) = alone::resolver(&ours.rule_text().expect("it has at most 512 bytes")) else {
+            println!("The crate's source is not at hand: no row beside its evaluation alone.");
+            return;
+        };
+        let figures = ours.forms_over(0..=999_999).expect("a span");
+        for k in 0..16 {
+            assert_eq!(figures.of(k), Some((0..1_000_000).filter(|&n| form(n) == k).count() as u64), "{called}, form {k}");
+        }
+        let each = race(
+            25,
+            [
+                &mut || keep(black_box(&ours).forms_over(0..=999_999)),
+                &mut || (0..1_000_000).for_each(|n| keep(black_box(&form)(n))),
+            ],
+        );
+        let [mine, theirs] = each.map(|seconds| seconds / 1e6 * 1e9);
+        let case = format!("Russian, {called}, 1000000 counts, beside the crate's evaluation alone");
+        rows.push(faster("form counts", case, "ns", mine, theirs, "crate"));
+    }
+}
+
 /// A plural lookup in a catalog that has the header alone: almost all of it is the rule. The crate is given the same tree; its own reading of
 /// the same text is a row beside Standard's.
 fn evaluation(rows: &mut Vec<Row>) {
@@ -315,6 +353,7 @@ fn evaluation(rows: &mut Vec<Row>) {
     }
     halves(rows);
     span(rows);
+    span_alone(rows);
 }
 
 fn utf8(rows: &mut Vec<Row>, files: &[Vec<u8>]) {

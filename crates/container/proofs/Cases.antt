@@ -1,4 +1,5 @@
--- Files of document 01, "Files and rules to try", computed from the definition: the first three are those that it stars. Assumes nothing.
+-- Files of document 01, "Files and rules to try", computed from the definition; those that it stars are in the table of crate `starred`. Assumes
+-- nothing.
 use Prim.Native.Nat.{ℕ}
 use mathlib.Core.Path.{_≡_, refl}
 use mathlib.Core.Bool.{true, false}
@@ -76,8 +77,6 @@ row s r = record { file = s; gives = r }
 abbrev pub rows : List Row
 rows =
     row fileF (loads 1)
-    ∷ row (take 47 fileF) (fails 1 (Entry 0 Translation))
-    ∷ row (take 27 fileF) (fails 1 File)
     -- the byte after a translation is not looked at; the one after an original ends the id
     ∷ row (set fileF 47 0x7a) (loads 1)
     ∷ row (set fileF 45 0x62) (fails 1 (Entry 0 Original))

@@ -8,7 +8,7 @@ use Rattle.refusal.specs.declared.Outcome.the-variants.{Loaded}
 use Rattle.rules.specs.Tree.{defaultTree}
 use Rattle.rules.specs.Pool.{Pool, treeOf}
 use Rattle.rules_text.specs.Bracketed.{bracketed}
-use Rattle.rules_text.specs.Writing.{writingOf, leftBy}
+use Rattle.rules_text.specs.Writing.{writingOf, leftBy, BoundedBy}
 use Rattle.rules_text.specs.declared.Writing.{Writing}
 use Rattle.host.specs.declared.Written.{Written}
 use Rattle.container.specs.Catalog.{Answer, load, treeIn}
@@ -71,9 +71,10 @@ indexes s h lent {b = b} e f g k =
 
 -- writing the rule of the nodes and the root that the head says
 pub writes : (P : Pool) (h old : List ℕ) {new : List ℕ} {w : Writing} {r : Written} → w ≡ writingOf P (nodesIn h) (rootIn h) (length old)
-    → new ≡ leftBy w (bracketed (treeOf P (rootIn h))) old → r ≡ host.writtenOf w → Writes P h old new r
-writes P h old e f g =
+    → new ≡ leftBy w (bracketed (treeOf P (rootIn h))) old → BoundedBy w (treeOf P (rootIn h)) → r ≡ host.writtenOf w → Writes P h old new r
+writes P h old e f b g =
     record {
       answer = g ∙ ap host.writtenOf e;
       left = f ∙ ap (λ (x : Writing). leftBy x (bracketed (treeOf P (rootIn h))) old) e;
+      bounded = rw e at b;
     }

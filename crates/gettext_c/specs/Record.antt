@@ -8,7 +8,7 @@ use Rattle.refusal.specs.Numbers.{outcomeNumber}
 use Rattle.rules.specs.Tree.{defaultTree}
 use Rattle.rules.specs.Pool.{Pool, treeOf}
 use Rattle.rules_text.specs.Bracketed.{bracketed}
-use Rattle.rules_text.specs.Writing.{writingOf, leftBy}
+use Rattle.rules_text.specs.Writing.{writingOf, leftBy, BoundedBy}
 use Rattle.host.specs.declared.Written.{Written}
 use Rattle.rules.specs.Pack.{packed, packedSize}
 use Rattle.rules.specs.Answer.{resolvedOf}
@@ -60,7 +60,9 @@ foundIn s h slots key = singularIn s (host.tablesIn h) (soughtIn s (host.tablesI
 abbrev pub countedIn : List ℕ → List ℕ → List ℕ → Pool → List ℕ → ℕ → Reason
 countedIn s h slots P key n = pluralIn s (host.tablesIn h) (resolvedOf P (nodesIn h) (rootIn h) n) (soughtIn s (host.tablesIn h) slots key)
 
--- writing the rule's text answers the number and the length, and leaves the text and the rest in the buffer, which was old and is new
+-- writing the rule's text answers the number and the length, and leaves the text and the rest in the buffer, which was old and is new; the
+-- integers of a rule that was written are below 2^64
 pub record Writes (P : Pool) (h : List ℕ) (old new : List ℕ) (r : Written) : Type 0 where
   pub answer : r ≡ host.writtenOf (writingOf P (nodesIn h) (rootIn h) (length old))
   pub left : new ≡ leftBy (writingOf P (nodesIn h) (rootIn h) (length old)) (bracketed (treeOf P (rootIn h))) old
+  pub bounded : BoundedBy (writingOf P (nodesIn h) (rootIn h) (length old)) (treeOf P (rootIn h))

@@ -12,7 +12,7 @@ use Rattle.reading_rule.specs.declared.Reading.{Reading}
 use Rattle.reading_rule.specs.declared.Reading.the-variants.{Shipped, Standard}
 use Rattle.reading_rule.specs.Plurals.{rule, readAs, made, tested, parsed}
 use Rattle.rules_text.specs.Bracketed.{bracketed}
-use Rattle.reading_bracketed.specs.Bounded.{Bounded}
+use Rattle.rules_text.specs.Bounded.{Bounded}
 use Rattle.reading_bracketed.specs.Plain.{Plain, Knows}
 use Rattle.reading_bracketed.proofs.Visible.{seen, trim-visible, ascii-visible}
 use Rattle.reading_bracketed.proofs.Standard.{standard-bracketed}

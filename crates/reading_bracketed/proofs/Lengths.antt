@@ -7,7 +7,7 @@ use lib.ListN.{length, length-append}
 use Rattle.rules.specs.Tree.{Tree, var, int, nay, bin, cond, Op}
 use Rattle.rules.specs.Store.{size}
 use Rattle.rules_text.specs.Bracketed.{signOf, bracketed}
-use Rattle.reading_bracketed.specs.Bounded.{Bounded}
+use Rattle.rules_text.specs.Bounded.{Bounded}
 use Rattle.reading_bracketed.proofs.Decimal.{digits-few}
 use Rattle.reading_bracketed.proofs.Marks.{Sign, one-byte, two-bytes, signs}
 

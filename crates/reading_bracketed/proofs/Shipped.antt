@@ -19,7 +19,7 @@ use Rattle.reading_scan.specs.Scan.{indexOf, endFrom}
 use Rattle.reading_levels.specs.Levels.{Kind, binary, ternary, Row, row, rows, found}
 use Rattle.reading_shipped.specs.Shipped.{one, two, three, readN, readInt, bang, colon, readNot, choose, level, inside, parens, parseIn, shipped}
 use Rattle.rules_text.specs.Bracketed.{signOf, brackets, bracketed, decimal}
-use Rattle.reading_bracketed.specs.Bounded.{Bounded}
+use Rattle.rules_text.specs.Bounded.{Bounded}
 use Rattle.reading_bracketed.specs.Plain.{Plain-op, Plain}
 use Rattle.reading_bracketed.proofs.Decimal.{Digits, decimal-writes, shipped-integer}
 use Rattle.reading_bracketed.proofs.Decimal as decimals

@@ -15,7 +15,7 @@ use Rattle.reading_grammar.specs.Reading.{standard}
 use Rattle.reading_grammar.proofs.Sound.{low}
 use Rattle.reading_grammar.proofs.Complete.{agrees}
 use Rattle.rules_text.specs.Bracketed.{signOf, bracketed}
-use Rattle.reading_bracketed.specs.Bounded.{Bounded}
+use Rattle.rules_text.specs.Bounded.{Bounded}
 use Rattle.reading_bracketed.proofs.Decimal.{Digits, none as no-digit, one, is-digit, value, decimal-writes}
 use Rattle.reading_bracketed.proofs.Marks.{inner, Sign, one-byte, two-bytes, signs, sign-no-digit, Begins, begins, begins-before}
 

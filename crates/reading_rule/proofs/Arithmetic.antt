@@ -34,15 +34,22 @@ values =
     ∷ (bytes "1+n<3", 2, form 0)
     ∷ (bytes "2+3*n", 2, form 8)
     ∷ (bytes "100/n/5", 4, form 5)
+    ∷ (bytes "n%4*3", 7, form 9)
+    ∷ (bytes "10/(n%3+1)", 0, form 10)
+    ∷ (bytes "10/(n%3+1)", 2, form 3)
     -- numbers wrap
     ∷ (bytes "18446744073709551615+1", 0, form 0)
     ∷ (bytes "0-1", 0, form 0xffffffffffffffff)
     ∷ (bytes "n*4294967296*4294967296", 3, form 0)
+    ∷ (bytes "n*2", 0x8000000000000001, form 2)
     -- truths are 0 and 1, without sign
     ∷ (bytes "!4-!255-(n>=n)>!3", 0, form 1)
     -- a zero divisor, after both operands; what is not needed is not evaluated
     ∷ (bytes "0*(1/0)", 0, number (numberOf error.ZeroModulus))
     ∷ (bytes "5/n", 0, number (numberOf error.ZeroModulus))
+    ∷ (bytes "5/n", 2, form 2)
+    ∷ (bytes "0*(5/n)", 0, number (numberOf error.ZeroModulus))
+    ∷ (bytes "0*(5/n)", 2, form 0)
     ∷ (bytes "0&&1/0", 0, form 0)
     -- signs before numbers and comments are none
     ∷ (bytes "n- -1", 5, number (numberOf error.PluralParsing))
@@ -69,12 +76,16 @@ ranges =
     ∷ (bytes "n*2", full)
     ∷ (bytes "n-n", full)
     ∷ (bytes "n*0", Range 0 0)
+    ∷ (bytes "n%10*3", Range 0 27)
+    ∷ (bytes "2*n%3", Range 0 2)
+    ∷ (bytes "1+n<3", Range 0 1)
     ∷ (bytes "n%4*3", Range 0 9)
     ∷ (bytes "n%4+3", Range 3 6)
     ∷ (bytes "10-n%3-2", Range 6 8)
     ∷ (bytes "10/(n%3+1)", Range 3 10)
     ∷ (bytes "5/n", Unrated)
     ∷ (bytes "0*(5/n)", Unrated)
+    ∷ (bytes "0*(1/0)", Unrated)
     ∷ (bytes "n%(n+1)", Unrated)
     ∷ []
 

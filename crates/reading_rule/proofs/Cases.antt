@@ -1,4 +1,4 @@
--- Rules in both readings, computed from the definition: the first six are those that document 01 stars, "Files and rules to try". Assumes
+-- Rules in both readings, computed from the definition: what document 01's starred rules, in the table of crate `starred`, do not show. Assumes
 -- nothing.
 use Prim.Native.Nat.{ℕ}
 use mathlib.Core.Path.{_≡_, refl}
@@ -43,14 +43,8 @@ row s n x y = record { text = s; count = n; in-shipped = x; in-standard = y }
 
 abbrev pub rows : List Row
 rows =
-    row (bytes "n%10%3") 5 (form 0) (form 2)
-    ∷ row (bytes "n>1 == 0") 2 (form 1) (form 0)
-    ∷ row (bytes "n==1 && 1 ? 2 : 3") 5 (form 0) (form 3)
-    ∷ row (bytes "(n1") 5 (form 5) (number 6)
-    ∷ row (bytes "+7") 5 (form 7) (number 6)
-    ∷ row (bytes "0 ? n?1:2 : 3") 5 (number 6) (form 3)
     -- trimmed of White_Space in both: byte 10, a blank, n, byte 11; A0, n, 3000, a blank
-    ∷ row (10 ∷ 32 ∷ 110 ∷ 11 ∷ []) 5 (form 5) (form 5)
+    row (10 ∷ 32 ∷ 110 ∷ 11 ∷ []) 5 (form 5) (form 5)
     ∷ row (0xC2 ∷ 0xA0 ∷ 110 ∷ 0xE3 ∷ 0x80 ∷ 0x80 ∷ 32 ∷ []) 5 (form 5) (form 5)
     -- inside a rule, or torn, it is a byte of 128 or more; so is 200B
     ∷ row (bytes "n%" ++ 0xC2 ∷ 0xA0 ∷ bytes "2") 5 (number 6) (number 6)

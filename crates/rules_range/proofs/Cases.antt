@@ -1,4 +1,4 @@
--- Rules in pools, computed from the definitions: the range, whether it fits a number, and the value at 0, 1 and 2. Assumes nothing.
+-- Rules in pools, computed from the definitions (document 01's starred rules are in the table of crate `starred`): the range, whether it fits a number, and the value at 0, 1 and 2. Assumes nothing.
 use Prim.Native.Nat.{ℕ}
 use mathlib.Core.Path.{_≡_, refl}
 use mathlib.Core.List.{List, [], _∷_, map}
@@ -24,17 +24,17 @@ alone c m v = (pool (c ∷ []) (m ∷ 0 ∷ []) (v ∷ []), 1, 0)
 abbrev over : ℕ → ℕ → ℕ → Pool × ℕ × ℕ
 over c m v = (pool (0 ∷ c ∷ []) (0 ∷ 0 ∷ m ∷ 0 ∷ []) (0 ∷ v ∷ []), 2, 1)
 
--- one over n and the integer 5, and over 5 and n
+-- one over n and the integer 5, and over 7 and n
 abbrev count-first : ℕ → ℕ → Pool × ℕ × ℕ
 count-first c v = (pool (0 ∷ 1 ∷ c ∷ []) (0 ∷ 0 ∷ 0 ∷ 0 ∷ 0 ∷ 0 ∷ []) (0 ∷ 5 ∷ v ∷ []), 3, 2)
 
 abbrev integer-first : ℕ → Pool × ℕ × ℕ
-integer-first c = (pool (1 ∷ 0 ∷ c ∷ []) (0 ∷ 0 ∷ 0 ∷ 0 ∷ 0 ∷ 0 ∷ []) (5 ∷ 0 ∷ 0 ∷ []), 3, 2)
+integer-first c = (pool (1 ∷ 0 ∷ c ∷ []) (0 ∷ 0 ∷ 0 ∷ 0 ∷ 0 ∷ 0 ∷ []) (7 ∷ 0 ∷ 0 ∷ []), 3, 2)
 
--- n % (n ? 3 : 4), and 1 && 1 % 0, as a reader leaves them
+-- n % (n ? 5 : 2), and 1 && 1 % 0, as a reader leaves them
 abbrev choice : Pool × ℕ × ℕ
 choice =
-    (pool (0 ∷ 0 ∷ 1 ∷ 1 ∷ 112 ∷ 88 ∷ []) (0 ∷ 0 ∷ 0 ∷ 0 ∷ 0 ∷ 0 ∷ 0 ∷ 0 ∷ 1 ∷ 2 ∷ 0 ∷ 0 ∷ []) (0 ∷ 0 ∷ 3 ∷ 4 ∷ []), 6, 5)
+    (pool (0 ∷ 0 ∷ 1 ∷ 1 ∷ 112 ∷ 88 ∷ []) (0 ∷ 0 ∷ 0 ∷ 0 ∷ 0 ∷ 0 ∷ 0 ∷ 0 ∷ 1 ∷ 2 ∷ 0 ∷ 0 ∷ []) (0 ∷ 0 ∷ 5 ∷ 2 ∷ []), 6, 5)
 
 abbrev reached : Pool × ℕ × ℕ
 reached = (pool (1 ∷ 1 ∷ 1 ∷ 88 ∷ 86 ∷ []) (0 ∷ 0 ∷ 0 ∷ 0 ∷ 0 ∷ 0 ∷ 1 ∷ 0 ∷ 0 ∷ 0 ∷ []) (1 ∷ 1 ∷ 0 ∷ []), 5, 4)
@@ -56,7 +56,7 @@ rows =
     ∷ (alone 21 0 1, Range 0 1, (2, Yes), Form 1, Form 0, Form 0)
     ∷ (alone 22 0 2, Range 0 1, (2, Yes), Form 0, Form 1, Form 1)
     ∷ (alone 23 0 0, Range 0 1, (2, Yes), Form 0, Form 1, Form 1)
-    ∷ (alone 24 0 10, Range 0 9, (10, Yes), Form 0, Form 1, Form 2)
+    ∷ (alone 24 0 7, Range 0 6, (7, Yes), Form 0, Form 1, Form 2)
     -- n % 2 != 1; n % 0 == 0; n % 9 % 2
     ∷ (alone 33 2 1, Range 0 1, (2, Yes), Form 1, Form 0, Form 1)
     ∷ (alone 32 0 0, Unrated, (2, No), resolved.ZeroModulus, resolved.ZeroModulus, resolved.ZeroModulus)
@@ -65,11 +65,11 @@ rows =
     ∷ (over 48 8 3, Range 0 1, (2, Yes), Form 1, Form 0, Form 0)
     ∷ (over 49 8 3, Range 3 8, (9, Yes), Form 8, Form 3, Form 3)
     ∷ (over 72 8 2, Range 0 1, (2, Yes), Form 0, Form 1, Form 0)
-    -- n < 5; n ? 3 : 5; 5 % n
+    -- n < 5; n ? 3 : 5; 7 % n
     ∷ (count-first 85 3, Range 0 1, (2, Yes), Form 1, Form 1, Form 1)
     ∷ (count-first 96 3, Range 3 5, (5, No), Form 5, Form 3, Form 3)
-    ∷ (integer-first 88, Unrated, (5, No), resolved.ZeroModulus, Form 0, Form 1)
-    ∷ (choice, Range 0 3, (4, Yes), Form 0, Form 1, Form 2)
+    ∷ (integer-first 88, Unrated, (7, No), resolved.ZeroModulus, Form 0, Form 1)
+    ∷ (choice, Range 0 4, (5, Yes), Form 0, Form 1, Form 2)
     ∷ (reached, Unrated, (2, No), resolved.ZeroModulus, resolved.ZeroModulus, resolved.ZeroModulus)
     -- n / 2, n + 1, n - 1, n * 2; n % 9 / 2, n % 9 + 2, n % 9 - 2, n % 9 * 2
     ∷ (alone 25 0 2, Range 0 0x7fffffffffffffff, (2, No), Form 0, Form 0, Form 1)
@@ -80,8 +80,8 @@ rows =
     ∷ (alone 42 9 2, Range 2 10, (11, Yes), Form 2, Form 3, Form 4)
     ∷ (alone 43 9 2, Range 0 0xffffffffffffffff, (2, No), Form 0xfffffffffffffffe, Form 0xffffffffffffffff, Form 0)
     ∷ (alone 44 9 2, Range 0 16, (17, Yes), Form 0, Form 2, Form 4)
-    -- 5 / n
-    ∷ (integer-first 89, Unrated, (5, No), resolved.ZeroModulus, Form 5, Form 2)
+    -- 7 / n
+    ∷ (integer-first 89, Unrated, (7, No), resolved.ZeroModulus, Form 7, Form 3)
     -- no tree: an unknown code
     ∷ (alone 29 0 1, rated.NoTree, (2, fit.NoTree), resolved.NoTree, resolved.NoTree, resolved.NoTree)
     ∷ []

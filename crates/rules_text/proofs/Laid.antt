@@ -1,5 +1,5 @@
 -- Texts put one after the other are their join put at once; a byte and a number are put. Assumes nothing.
-use Prim.Native.Nat.{ℕ, suc, _+_, _/_, _%_, _<_, _≤_}
+use Prim.Native.Nat.{ℕ, suc, _+_, _/_, _%_, _^_, _<_, _≤_}
 use mathlib.Core.Path.{_≡_, refl, sym, ap, _∙_}
 use mathlib.Core.Bool.{true, false}
 use mathlib.Core.List.{List, [], _∷_, _++_}
@@ -9,8 +9,9 @@ use lib.Seq.{sets, paste, paste-suc}
 use lib.Dec.{leb}
 use borrow.Author.Tests.{le-leb, lt-leb, leb-true, leb-false}
 use Rattle.text.proofs.Tests.{taken, left, by-test}
-use Rattle.rules_text.specs.Bracketed.{decimal}
-use Rattle.rules_text.specs.Private.{ended, Puts}
+use Rattle.rules.specs.Tree.{int}
+use Rattle.rules_text.specs.Bracketed.{bracketed}
+use Rattle.rules_text.specs.Private.{ended, Puts, PutsTree}
 use Rattle.rules_text.proofs.Decimal.{decimal-short, decimal-long}
 
 pub sets-joined : (old : List ℕ) (at : ℕ) (s t : List ℕ) → sets (sets old at s) (at + length s) t ≡ sets old at (s ++ t)
@@ -57,12 +58,14 @@ pub reworded : {s t : List ℕ} {at r : ℕ} {x y : List ℕ} → t ≡ s → Pu
 reworded e w = rw e w
 
 -- a number, its last digit last
-module _ (v at : ℕ) {b r : ℕ} {x z : List ℕ} where
-  pub number-short : v < 10 → b ≡ 48 + v → Puts (b ∷ []) at x z r → Puts (decimal v) at x z r
-  number-short h e w = reworded (decimal-short v h) (rw e at w)
+module _ (v at : ℕ) (l : v < 2 ^ 64) {b r : ℕ} {x z : List ℕ} where
+  pub number-short : v < 10 → b ≡ 48 + v → Puts (b ∷ []) at x z r → PutsTree (int v) at x z r
+  unfolding bracketed
+  number-short h e w = record { text = reworded (decimal-short v h) (rw e at w); bounded = l }
 
-  pub number-long : {q : ℕ} {y : List ℕ} → 10 ≤ v → Puts (decimal (v / 10)) at x y q → b ≡ 48 + v % 10 → Puts (b ∷ []) q y z r → Puts (decimal v) at x z r
-  number-long h d e w = reworded (decimal-long v h) (joined d (rw e at w))
+  pub number-long : {q : ℕ} {y : List ℕ} → 10 ≤ v → PutsTree (int (v / 10)) at x y q → b ≡ 48 + v % 10 → Puts (b ∷ []) q y z r → PutsTree (int v) at x z r
+  unfolding bracketed
+  number-long h d e w = record { text = reworded (decimal-long v h) (joined (d .text) (rw e at w)); bounded = l }
 
 -- a turn of the loop that copies to the front of a buffer, and its end
 module _ (old s : List ℕ) {x : List ℕ} (i : ℕ) (e : x ≡ paste old 0 s i) where

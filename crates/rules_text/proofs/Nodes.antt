@@ -14,6 +14,7 @@ use Rattle.rules.specs.Promise.{Sound}
 use Rattle.rules.proofs.Trees.{known-in, op-low, op-high, before-in, first-in, second-in, down, tree-leaf, tree-one, tree-two, tree-three, leaf-op, leaf-rest, one-op, two-op}
 use Rattle.rules_text.specs.declared.Part.the-variants.{N, Number, Rest, Node}
 use Rattle.rules_text.specs.Bracketed.{bracketed}
+use Rattle.rules_text.specs.Bounded.{Bounded}
 use Rattle.rules_text.specs.Private.{signBy, firstOf, secondOf, lastOf, leadOf, ternary, Operand}
 
 -- a binary operator
@@ -21,30 +22,35 @@ record Binary (P : Pool) (p : ℕ) (s t : Tree) : Type 0 where
   named : Named (code P p % 16)
   is : treeOf P p ≡ bin (named .op) s t
 
--- its text is in brackets
-abbrev Whole : Tree → Type 0
-Whole t = bracketed t ≡ 40 ∷ (leadOf t ++ bracketed (lastOf t)) ++ 41 ∷ []
+-- an operator's text is in brackets, and its integers are those of its operands
+pub record Whole (t : Tree) : Type 0 where
+  pub text : bracketed t ≡ 40 ∷ (leadOf t ++ bracketed (lastOf t)) ++ 41 ∷ []
+  pub bounded : Bounded (firstOf t) → Bounded (secondOf t) → Bounded (lastOf t) → Bounded t
 
 not-whole : (t : Tree) → Whole (nay t)
 unfolding bracketed
-not-whole t = refl
+not-whole t = record { text = refl; bounded = λ a b c. c }
 
 two-whole : (o : Op) (s t : Tree) → Whole (bin o s t)
 unfolding bracketed
-two-whole o s t = refl
+two-whole o s t = record { text = refl; bounded = λ a b c. (a, c) }
 
 three-whole : (s t u : Tree) → Whole (cond s t u)
 unfolding bracketed
-three-whole s t u = ap (λ (l : List ℕ). 40 ∷ l ++ 41 ∷ []) (sym (append-assoc (bracketed s ++ 63 ∷ bracketed t) (58 ∷ []) (bracketed u)))
+three-whole s t u = record {
+  text = ap (λ (l : List ℕ). 40 ∷ l ++ 41 ∷ []) (sym (append-assoc (bracketed s ++ 63 ∷ bracketed t) (58 ∷ []) (bracketed u)));
+  bounded = λ a b c. (a, b, c);
+}
 
 -- what is written before the last operand of a binary operator
 pub record Signed (P : Pool) (p : ℕ) : Type 0 where
   pub named : Named (code P p % 16)
   pub is : leadOf (treeOf P p) ≡ bracketed (firstOf (treeOf P p)) ++ signBy (opOf (code P p % 16))
+  pub second : Bounded (secondOf (treeOf P p))
   whole : Whole (treeOf P p)
 
 signed : {P : Pool} {p : ℕ} {s t : Tree} → Binary P p s t → Signed P p
-signed {s = s} {t = t} w = record { named = w .named; is = rw (w .is, w .named .is); whole = rw (w .is) (two-whole (w .named .op) s t) }
+signed {s = s} {t = t} w = record { named = w .named; is = rw (w .is, w .named .is); second = rw (w .is) tt; whole = rw (w .is) (two-whole (w .named .op) s t) }
 
 -- and that operand, where it is the value
 record Low (P : Pool) (p : ℕ) : Type 0 where

@@ -20,4 +20,4 @@ write-left κs x = now (x .1 .1 .1 .1 .1 .0)
 pub write-one : OneLeft 2 write-kinds.ps write-kinds.r write.Post write-left
 write-one κs a u v x y p q =
     let e = p .0 ∙ sym (q .0) in
-    (e, p .1 ∙ (ap (λ w. leftBy w (bracketed (treeOf (pool (now (a .0)) (now (a .1 .0)) (now (a .1 .1 .0))) (a .1 .1 .1 .1 .0))) (now (a .1 .1 .1 .1 .1 .0))) e ∙ sym (q .1)))
+    (e, p .1 .0 ∙ (ap (λ w. leftBy w (bracketed (treeOf (pool (now (a .0)) (now (a .1 .0)) (now (a .1 .1 .0))) (a .1 .1 .1 .1 .0))) (now (a .1 .1 .1 .1 .1 .0))) e ∙ sym (q .1 .0)))

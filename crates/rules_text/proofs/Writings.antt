@@ -1,5 +1,5 @@
 -- The answer and what is left in the buffer, from what the walk put and where it ended.
-use Prim.Native.Nat.{ℕ, _+_, _<_, _≤_}
+use Prim.Native.Nat.{ℕ, _+_, _<_, _≤_, min}
 use mathlib.Core.Path.{_≡_, refl, sym, ap, _∙_}
 use mathlib.Core.Bool.{Bool, true, false, _&&_}
 use mathlib.Core.List.{List, _++_}
@@ -40,18 +40,24 @@ module _ {s old new : List ℕ} {n : ℕ} (w : Puts s 0 old new n) where
       let d : new ≡ s ++ drop (0 + length s) old = w .text (omega arith) ∙ sets-eq s old 0 (omega arith) in
       ap (λ (l : List ℕ). take n l) d ∙ take-at s (drop (0 + length s) old) n (sym e)
 
-  pub too-long : (room : ℕ) → 512 < n → TooLong ≡ fitted s room
+  too-long : (room : ℕ) → 512 < n → TooLong ≡ fitted s room
   too-long room h =
       let d : (leb (length s) 512 && leb (length s) room) ≡ false = rw (lt-leb (length s) 512 (cut-text h)) in
       sym (left _ _ d)
 
-  pub no-room : (room : ℕ) → n ≤ 512 → room < n → TooLong ≡ fitted s room
-  no-room room h l =
+  -- with room in the buffer, and at most 512 bytes of it
+  pub no-room : (room : ℕ) {m : ℕ} → m ≡ min 512 room → m < n → TooLong ≡ fitted s room
+  no-room room e l =
+      by-test _ (leb n 512)
+      (λ t.
+      let h : n ≤ 512 = leb-true n 512 t in
       let d : (leb (length s) 512 && leb (length s) room) ≡ false = rw (lt-leb (length s) room (omega (arith, whole-text h))) (and-none (leb (length s) 512)) in
-      sym (left _ _ d)
+      sym (left _ _ d))
+      (λ t. too-long room (leb-false n 512 t))
 
-  pub fits : (room : ℕ) → n ≤ 512 → n ≤ room → Length n ≡ fitted s room
-  fits room h l =
+  pub fits : (room : ℕ) {m : ℕ} → m ≡ min 512 room → n ≤ m → Length n ≡ fitted s room
+  fits room z l =
+      let h : n ≤ 512 = omega arith in
       let e : n ≡ length s = whole-text h in
       let d : (leb (length s) 512 && leb (length s) room) ≡ true = rw (le-leb (length s) 512 (omega arith), le-leb (length s) room (omega arith)) in
       ap Length e ∙ sym (taken _ _ d)

@@ -1,3 +1,4 @@
 pub mod Bracketed
+pub mod Bounded
 pub mod Writing
 pub mod Private

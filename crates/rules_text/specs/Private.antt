@@ -14,6 +14,7 @@ use Rattle.rules.specs.Promise.{Sound}
 use Rattle.rules_text.specs.declared.Part.{Part}
 use Rattle.rules_text.specs.declared.Part.the-variants.{N, Number, Rest, Node}
 use Rattle.rules_text.specs.Bracketed.{signOf, bracketed}
+use Rattle.rules_text.specs.Bounded.{Bounded}
 
 -- the place after a text; 513 if it does not fit
 abbrev pub ended : ℕ → List ℕ → ℕ
@@ -23,6 +24,11 @@ ended at s = elim (leb (at + length s) 512) [ true ↦ at + length s | false ↦
 pub record Puts (s : List ℕ) (at : ℕ) (old new : List ℕ) (r : ℕ) : Type 0 where
   pub end : r ≡ ended at s
   pub text : at + length s ≤ 512 → new ≡ sets old at s
+
+-- the text of a tree was put, whose integers are below 2^64
+pub record PutsTree (t : Tree) (at : ℕ) (old new : List ℕ) (r : ℕ) : Type 0 where
+  pub text : Puts (bracketed t) at old new r
+  pub bounded : Bounded t
 
 abbrev pub signBy : Option Op → List ℕ
 signBy (some op) = signOf op
@@ -56,6 +62,11 @@ leadOf (int v) = []
 leadOf (nay t) = code "!" ∷ []
 leadOf (bin op s t) = bracketed s ++ signOf op
 leadOf (cond s t u) = bracketed s ++ code "?" ∷ bracketed t ++ code ":" ∷ []
+
+-- what stands before the last operand of an operator was put
+pub record PutsLead (t : Tree) (at : ℕ) (old new : List ℕ) (r : ℕ) : Type 0 where
+  pub text : Puts (leadOf t) at old new r
+  pub bounded : Bounded (firstOf t) × Bounded (secondOf t)
 
 -- the codes of ?:
 abbrev pub ternary : ℕ → Bool

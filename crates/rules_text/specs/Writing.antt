@@ -5,10 +5,12 @@ use mathlib.Core.Bool.{true, false, _&&_}
 use mathlib.Core.List.{List, _++_}
 use lib.ListN.{length, drop}
 use lib.Dec.{leb}
+use Rattle.rules.specs.Tree.{Tree}
 use Rattle.rules.specs.Pool.{Pool, treeOf, isTree}
 use Rattle.rules_text.specs.declared.Writing.{Writing}
 use Rattle.rules_text.specs.declared.Writing.the-variants.{Length, TooLong, NoTree}
 use Rattle.rules_text.specs.Bracketed.{bracketed}
+use Rattle.rules_text.specs.Bounded.{Bounded}
 
 -- the answer for a text in a buffer of so many bytes
 abbrev pub fitted : List ℕ → ℕ → Writing
@@ -23,3 +25,9 @@ abbrev pub leftBy : Writing → List ℕ → List ℕ → List ℕ
 leftBy (Length n) s old = s ++ drop n old
 leftBy TooLong s old = old
 leftBy NoTree s old = old
+
+-- the integers of a rule that was written are below 2^64
+abbrev pub BoundedBy : Writing → Tree → Type 0
+BoundedBy (Length n) t = Bounded t
+BoundedBy TooLong t = Unit {0}
+BoundedBy NoTree t = Unit {0}

@@ -6,16 +6,16 @@ use rules::place;
 ghost use mathlib.Core.Path.{_≡_};
 ghost use mathlib.Core.Bool.{true};
 ghost use mathlib.Core.List.{[], _∷_};
-ghost use Prim.Native.Nat.{_<_, _≤_};
+ghost use Prim.Native.Nat.{_<_, _≤_, min};
 ghost use lib.ListN.{length, getD};
 ghost use lib.Seq.{paste};
 ghost use Rattle.rules.specs.Operator.{opOf, Named};
 ghost use Rattle.rules.specs.Tree.{bin, rem, var, int};
 ghost use Rattle.rules.specs.Pool.{pool, treeOf};
 ghost use Rattle.rules.specs.Promise.{Sound};
-ghost use Rattle.rules_text.specs.Bracketed.{decimal, bracketed};
-ghost use Rattle.rules_text.specs.Writing.{writingOf, leftBy};
-ghost use Rattle.rules_text.specs.Private.{Puts, signBy, firstOf, secondOf, lastOf, leadOf, ternary, partTree, Held, Operand};
+ghost use Rattle.rules_text.specs.Bracketed.{bracketed};
+ghost use Rattle.rules_text.specs.Writing.{writingOf, leftBy, BoundedBy};
+ghost use Rattle.rules_text.specs.Private.{Puts, PutsTree, PutsLead, signBy, firstOf, secondOf, lastOf, ternary, partTree, Held, Operand};
 
 // The most bytes of a rule's text.
 const MOST: usize = 512;
@@ -68,7 +68,7 @@ fn put_byte(out: &mut [u8; 512], at: usize, b: u8) -> usize
 
 // Puts a number in decimal digits.
 fn put_number(out: &mut [u8; 512], at: usize, v: u64) -> usize
-    ensures { λ r. ⌜ Puts (decimal v) at (now (out .entry)) (now (out .exit)) r ⌝ }
+    ensures { λ r. ⌜ PutsTree (int v) at (now (out .entry)) (now (out .exit)) r ⌝ }
 {
     if v < 10 {
         return put_byte(out, at, b'0' + v as u8);
@@ -79,7 +79,7 @@ fn put_number(out: &mut [u8; 512], at: usize, v: u64) -> usize
 
 // Puts n % m.
 fn put_rest(out: &mut [u8; 512], at: usize, m: u64) -> usize
-    ensures { λ r. ⌜ Puts (bracketed (bin rem var (int m))) at (now (out .entry)) (now (out .exit)) r ⌝ }
+    ensures { λ r. ⌜ PutsTree (bin rem var (int m)) at (now (out .entry)) (now (out .exit)) r ⌝ }
 {
     let n = put_byte(out, at, b'(');
     let sign = put_byte(out, n, b'n');
@@ -189,7 +189,7 @@ fn put_part<'a>(
     at: usize,
 ) -> usize
     requires { ⌜ Held (pool (now codes) (now places) (now values)) part ⌝ }
-    ensures { λ r. ⌜ Puts (bracketed (partTree (pool (now (codes .entry)) (now (places .entry)) (now (values .entry))) part))
+    ensures { λ r. ⌜ PutsTree (partTree (pool (now (codes .entry)) (now (places .entry)) (now (values .entry))) part)
         at (now (out .entry)) (now (out .exit)) r ⌝ }
 {
     match part {
@@ -211,7 +211,7 @@ fn put_lead<'a>(
 ) -> usize
     requires sound { ⌜ Sound (pool (now codes) (now places) (now values)) p ⌝ }
     requires operator { ⌜ 1 < getD (now codes) p 0 ⌝ }
-    ensures { λ r. ⌜ Puts (leadOf (treeOf (pool (now (codes .entry)) (now (places .entry)) (now (values .entry))) p))
+    ensures { λ r. ⌜ PutsLead (treeOf (pool (now (codes .entry)) (now (places .entry)) (now (values .entry))) p)
         at (now (out .entry)) (now (out .exit)) r ⌝ }
 {
     let code = codes[p];
@@ -239,7 +239,7 @@ fn put_node<'a>(
     at: usize,
 ) -> usize
     requires { ⌜ Sound (pool (now codes) (now places) (now values)) p ⌝ }
-    ensures { λ r. ⌜ Puts (bracketed (treeOf (pool (now (codes .entry)) (now (places .entry)) (now (values .entry))) p))
+    ensures { λ r. ⌜ PutsTree (treeOf (pool (now (codes .entry)) (now (places .entry)) (now (values .entry))) p)
         at (now (out .entry)) (now (out .exit)) r ⌝ }
 {
     let code = codes[p];
@@ -254,6 +254,13 @@ fn put_node<'a>(
     let part = last(codes, places, values, p);
     let close = put_part(codes, places, values, part, out, end);
     put_byte(out, close, b')')
+}
+
+// The smaller of two lengths.
+fn least(x: usize, y: usize) -> usize
+    ensures { λ r. ⌜ r ≡ min x y ⌝ }
+{
+    if x < y { x } else { y }
 }
 
 // Copies the first n bytes of a text to the front of a buffer.
@@ -281,16 +288,15 @@ pub fn write<'a>(
         count root (length (now (buffer .entry))) ⌝ }
     ensures left { λ r. ⌜ now (buffer .exit) ≡ leftBy r
         (bracketed (treeOf (pool (now (codes .entry)) (now (places .entry)) (now (values .entry))) root)) (now (buffer .entry)) ⌝ }
+    ensures bounded { λ r. ⌜ BoundedBy r (treeOf (pool (now (codes .entry)) (now (places .entry)) (now (values .entry))) root) ⌝ }
 {
     if !rules_tree::is_tree(codes, places, count, root) {
         return Writing::NoTree;
     }
     let mut text = [0u8; 512];
     let n = put_node(codes, places, values, root, &mut text, 0);
-    if MOST < n {
-        return Writing::TooLong;
-    }
-    if buffer.len() < n {
+    let room = least(MOST, buffer.len());
+    if room < n {
         return Writing::TooLong;
     }
     copy(&text, n, buffer);

@@ -24,7 +24,7 @@ same-length : tie.Need-same-length
 same-length c = search needs
 
 returns : tie.Need-returns
-returns c = writes _ _ _ (c .before .before .before .write .ensures .0) (c .before .before .before .write .ensures .1) (c .written-of .ensures)
+returns c = writes _ _ _ (c .before .before .before .write .ensures .0) (c .before .before .before .write .ensures .1 .0) (c .before .before .before .write .ensures .1 .1) (c .written-of .ensures)
 
 pub gettext-c-text-spec : {M : Type 1} → statement M
 gettext-c-text-spec =

@@ -18,7 +18,7 @@ returns : tie.Need-returns
 returns c = record { is = λ op e. sym (truths _ op _ _ _ _ e (c .if1 .taken)) }
 
 calculated-requires : tie.Need-calculated-requires
-calculated-requires c κs = let s : tie.Start = c .before .before in s .pre
+calculated-requires c κs = let s : tie.Start = c .before .before in omega (arith, s .pre)
 
 returns-2 : tie.Need-returns-2
 returns-2 c = record { is = λ op e. let k = high-calc _ op e (c .before .if2 .taken) in rw (k .is) (c .calculated .ensures .is (k .which) (rw (k .is) at e)) }

@@ -7,7 +7,7 @@ use borrow.Author.Needs.{needs}
 use Rattle.rules.specs.Pool.{Pool, pool}
 use Rattle.rules_text.specs.Private.{depth}
 use Rattle.rules_text.proofs.Nodes.{operator, lead-sign, above}
-use Rattle.rules_text.proofs.Texts.{operand-put, operand-down, count-put, number-put, part-put, node-held, put-count, put-integer, put-operator, put-not, put-three, put-signed}
+use Rattle.rules_text.proofs.Texts.{operand-put, operand-down, count-put, part-put, node-held, put-count, put-integer, put-operator, put-not, put-three, put-signed}
 use Prim.Native.Nat.{ℕ, _+_, _*_, _<_}
 use borrow.Fn.Kinds.{In}
 use borrow.Fn.PlainCycle.{Measures, is, falls, and}
@@ -185,10 +185,10 @@ put-part-put-node-requires : (t : ℕ) → put-part-lts.Need-put-node-requires (
 put-part-put-node-requires t c κs = let s : Part t = c .before .before .before .before in node-held (c .before .before .part3 .given .1) (s .pre .0) (s .pre .1)
 
 put-part-returns : (t : ℕ) → put-part-lts.Need-returns (R-put-part t) (put-part-at t) put-part.Post
-put-part-returns t c = let s : Part t = c .before .before .before .before in count-put (P s) (c .before .before .enum-told .given .1) (c .put-byte .ensures)
+put-part-returns t c = let s : Part t = c .before .before .before .before in part-put (P s) (c .before .before .enum-told .given .1) (count-put (c .put-byte .ensures))
 
 put-part-returns-2 : (t : ℕ) → put-part-lts.Need-returns-2 (R-put-part t) (put-part-at t) put-part.Post
-put-part-returns-2 t c = let s : Part t = c .before .before .before .before .before in number-put (P s) (c .before .before .before .part .given .1) (c .put-number .ensures)
+put-part-returns-2 t c = let s : Part t = c .before .before .before .before .before in part-put (P s) (c .before .before .before .part .given .1) (c .put-number .ensures)
 
 put-part-returns-3 : (t : ℕ) → put-part-lts.Need-returns-3 (R-put-part t) (put-part-at t) put-part.Post
 put-part-returns-3 t c = let s : Part t = c .before .before .before .before .before in part-put (P s) (c .before .before .before .part2 .given .1) (c .put-rest .ensures)

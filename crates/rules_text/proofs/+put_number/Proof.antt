@@ -41,7 +41,7 @@ put-number-put-byte-requires : (t : ℕ) → put-number-lts.Need-put-byte-requir
 put-number-put-byte-requires t c κs = search needs
 
 put-number-returns : (t : ℕ) → put-number-lts.Need-returns (R-put-number t) (put-number-at t) put-number.Post
-put-number-returns t c = let s : St t = c .before .before .before in number-short (s .args .v) (s .args .at) (omega arith) refl (c .put-byte .ensures)
+put-number-returns t c = let s : St t = c .before .before .before in number-short (s .args .v) (s .args .at) (s .fits .v .fits) (omega arith) refl (c .put-byte .ensures)
 
 put-number-put-number-requires : (t : ℕ) → put-number-lts.Need-put-number-requires (R-put-number t) (put-number-at t) put-number.Post
 put-number-put-number-requires t c κs = let s : St t = c .before .before in (omega (arith, s .pre .0, split (s .args .v)), s .pre .1)
@@ -56,7 +56,7 @@ put-number-put-byte-requires-2 : (t : ℕ) → put-number-lts.Need-put-byte-requ
 put-number-put-byte-requires-2 t c κs = search needs
 
 put-number-returns-2 : (t : ℕ) → put-number-lts.Need-returns-2 (R-put-number t) (put-number-at t) put-number.Post
-put-number-returns-2 t c = let s : St t = c .before .before .before .before .before in number-long (s .args .v) (s .args .at) (omega arith) (c .before .before .put-number .ensures) refl (c .put-byte2 .ensures)
+put-number-returns-2 t c = let s : St t = c .before .before .before .before .before in number-long (s .args .v) (s .args .at) (s .fits .v .fits) (omega arith) (c .before .before .put-number .ensures) refl (c .put-byte2 .ensures)
 
 pub +put-number-spec : {M : Type 1} → statement M
 +put-number-spec = close μ-put-number λ t. put-number-lts.spec (

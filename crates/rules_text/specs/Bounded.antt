@@ -1,4 +1,4 @@
--- The trees whose texts are read back. SPEC 6: an integer "above 2^64-1 is 6", no rule.
+-- What an array of 64-bit numbers can hold of a tree. SPEC 6: an integer "above 2^64-1 is 6", no rule.
 use Prim.Native.Nat.{_^_, _<_}
 use Rattle.rules.specs.Tree.{Tree, var, int, nay, bin, cond}
 
