@@ -60,7 +60,7 @@ stops w (b ∷ s) h =
     (λ t. rw (front-out w b s t) t)
 
 -- without a byte 4, and with one
-without : (o : List ℕ) {end : ℕ} → length o ≤ place 4 o → end ≡ place 0 o → Splits o (record { context = 0; id = 0; end = end })
+pub without : (o : List ℕ) {end : ℕ} → length o ≤ place 4 o → end ≡ place 0 o → Splits o (record { context = 0; id = 0; end = end })
 unfolding contextEnd idStart idEnd
 without o h e =
     let t : hasContext o ≡ false = le-ltb (place 4 o) (length o) h in

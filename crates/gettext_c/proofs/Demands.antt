@@ -70,12 +70,8 @@ use Rattle.gettext_c.proofs.gettext_c_load.Reads as load-reads
 use Rattle.gettext_c.proofs.gettext_c_load.Kinds as load-kinds
 use Rattle.gettext_c.proofs.gettext_c_gettext.Reads as gettext
 use Rattle.gettext_c.proofs.gettext_c_gettext.Kinds as gettext-kinds
-use Rattle.gettext_c.proofs.gettext_c_pgettext.Reads as pgettext
-use Rattle.gettext_c.proofs.gettext_c_pgettext.Kinds as pgettext-kinds
 use Rattle.gettext_c.proofs.gettext_c_ngettext.Reads as ngettext
 use Rattle.gettext_c.proofs.gettext_c_ngettext.Kinds as ngettext-kinds
-use Rattle.gettext_c.proofs.gettext_c_npgettext.Reads as npgettext
-use Rattle.gettext_c.proofs.gettext_c_npgettext.Kinds as npgettext-kinds
 use Rattle.gettext_c.proofs.gettext_c_rating.Reads as rating
 use Rattle.gettext_c.proofs.gettext_c_rating.Kinds as rating-kinds
 use Rattle.gettext_c.proofs.gettext_c_fits.Reads as fits
@@ -92,20 +88,17 @@ use Rattle.gettext_c.proofs.gettext_c_text.Reads as text
 use Rattle.gettext_c.proofs.gettext_c_text.Kinds as text-kinds
 use Rattle.gettext_c.proofs.gettext_c_why_ngettext.Reads as why-ngettext
 use Rattle.gettext_c.proofs.gettext_c_why_ngettext.Kinds as why-ngettext-kinds
-use Rattle.gettext_c.proofs.gettext_c_why_npgettext.Reads as why-npgettext
-use Rattle.gettext_c.proofs.gettext_c_why_npgettext.Kinds as why-npgettext-kinds
 
 -- 1. No input stops the host. No function asks anything of its caller: `Pre` is what it requires, as the check reads it from the source.
 -- That it ends, and touches nothing outside what is lent to it, is what the check proves of every function.
 abbrev pub AsksNothing : (n : ℕ) (ps : List (PK n)) → In n ps → Type 0
 AsksNothing n ps Pre = (κs : Lfts n) (a : Dens κs ps) → Pre κs a
 
-pub nothing-asked : AsksNothing 3 empty-kinds.ps empty.Pre × AsksNothing 4 load-kinds.ps load-reads.Pre × AsksNothing 1 gettext-kinds.ps gettext.Pre
-    × AsksNothing 1 pgettext-kinds.ps pgettext.Pre × AsksNothing 1 ngettext-kinds.ps ngettext.Pre × AsksNothing 1 npgettext-kinds.ps npgettext.Pre
+pub nothing-asked : AsksNothing 3 empty-kinds.ps empty.Pre × AsksNothing 4 load-kinds.ps load-reads.Pre × AsksNothing 1 gettext-kinds.ps gettext.Pre × AsksNothing 1 ngettext-kinds.ps ngettext.Pre
     × AsksNothing 1 rating-kinds.ps rating.Pre × AsksNothing 1 fits-kinds.ps fits.Pre × AsksNothing 1 resolve-kinds.ps resolve.Pre
     × AsksNothing 1 is-utf8-kinds.ps is-utf8.Pre × AsksNothing 1 cost-kinds.ps cost.Pre × AsksNothing 2 span-kinds.ps span.Pre × AsksNothing 2 text-kinds.ps text.Pre
-    × AsksNothing 1 why-ngettext-kinds.ps why-ngettext.Pre × AsksNothing 1 why-npgettext-kinds.ps why-npgettext.Pre
-nothing-asked = (λ κs a. tt, λ κs a. tt, λ κs a. tt, λ κs a. tt, λ κs a. tt, λ κs a. tt, λ κs a. tt, λ κs a. tt, λ κs a. tt, λ κs a. tt, λ κs a. tt, λ κs a. tt, λ κs a. tt, λ κs a. tt, λ κs a. tt)
+    × AsksNothing 1 why-ngettext-kinds.ps why-ngettext.Pre
+nothing-asked = (λ κs a. tt, λ κs a. tt, λ κs a. tt, λ κs a. tt, λ κs a. tt, λ κs a. tt, λ κs a. tt, λ κs a. tt, λ κs a. tt, λ κs a. tt, λ κs a. tt, λ κs a. tt)
 
 -- a refused load gives the empty catalog
 refused-empty : (a : Answer) {Q : Pool} {r : Loaded} → Loads a Q r → (r .number ≡ 0 → ⊥) → (tablesIn (r .head) ≡ noTables) × (Q ≡ packed defaultTree)

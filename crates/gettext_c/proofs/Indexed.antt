@@ -41,17 +41,12 @@ use Rattle.gettext_c.proofs.gettext_c_index.Reads as index
 use Rattle.gettext_c.proofs.gettext_c_index.Kinds as index-kinds
 use Rattle.gettext_c.proofs.gettext_c_gettext_indexed.Reads as gettext
 use Rattle.gettext_c.proofs.gettext_c_gettext_indexed.Kinds as gettext-kinds
-use Rattle.gettext_c.proofs.gettext_c_pgettext_indexed.Reads as pgettext
-use Rattle.gettext_c.proofs.gettext_c_pgettext_indexed.Kinds as pgettext-kinds
 use Rattle.gettext_c.proofs.gettext_c_ngettext_indexed.Reads as ngettext
 use Rattle.gettext_c.proofs.gettext_c_ngettext_indexed.Kinds as ngettext-kinds
-use Rattle.gettext_c.proofs.gettext_c_npgettext_indexed.Reads as npgettext
-use Rattle.gettext_c.proofs.gettext_c_npgettext_indexed.Kinds as npgettext-kinds
 
 -- 1. No function asks anything of its caller.
-pub nothing-asked-indexed : AsksNothing 1 slots-kinds.ps slots.Pre × AsksNothing 2 index-kinds.ps index.Pre × AsksNothing 1 gettext-kinds.ps gettext.Pre
-    × AsksNothing 1 pgettext-kinds.ps pgettext.Pre × AsksNothing 1 ngettext-kinds.ps ngettext.Pre × AsksNothing 1 npgettext-kinds.ps npgettext.Pre
-nothing-asked-indexed = (λ κs a. tt, λ κs a. tt, λ κs a. tt, λ κs a. tt, λ κs a. tt, λ κs a. tt)
+pub nothing-asked-indexed : AsksNothing 1 slots-kinds.ps slots.Pre × AsksNothing 2 index-kinds.ps index.Pre × AsksNothing 1 gettext-kinds.ps gettext.Pre × AsksNothing 1 ngettext-kinds.ps ngettext.Pre
+nothing-asked-indexed = (λ κs a. tt, λ κs a. tt, λ κs a. tt, λ κs a. tt)
 
 -- a refused lookup gives the caller's own id or plural id, with 10, 11 or 12
 pub data Refused : ℕ → Type 0 where

@@ -16,16 +16,10 @@ use Rattle.gettext_c.proofs.gettext_c_load.Reads as load
 use Rattle.gettext_c.proofs.gettext_c_load.Kinds as load-kinds
 use Rattle.gettext_c.proofs.gettext_c_gettext.Reads as gettext
 use Rattle.gettext_c.proofs.gettext_c_gettext.Kinds as gettext-kinds
-use Rattle.gettext_c.proofs.gettext_c_pgettext.Reads as pgettext
-use Rattle.gettext_c.proofs.gettext_c_pgettext.Kinds as pgettext-kinds
 use Rattle.gettext_c.proofs.gettext_c_ngettext.Reads as ngettext
 use Rattle.gettext_c.proofs.gettext_c_ngettext.Kinds as ngettext-kinds
-use Rattle.gettext_c.proofs.gettext_c_npgettext.Reads as npgettext
-use Rattle.gettext_c.proofs.gettext_c_npgettext.Kinds as npgettext-kinds
 use Rattle.gettext_c.proofs.gettext_c_why_ngettext.Reads as why-ngettext
 use Rattle.gettext_c.proofs.gettext_c_why_ngettext.Kinds as why-ngettext-kinds
-use Rattle.gettext_c.proofs.gettext_c_why_npgettext.Reads as why-npgettext
-use Rattle.gettext_c.proofs.gettext_c_why_npgettext.Kinds as why-npgettext-kinds
 use Rattle.gettext_c.proofs.gettext_c_rating.Reads as rating
 use Rattle.gettext_c.proofs.gettext_c_rating.Kinds as rating-kinds
 use Rattle.gettext_c.proofs.gettext_c_fits.Reads as fits
@@ -38,12 +32,8 @@ use Rattle.gettext_c.proofs.gettext_c_slots.Reads as slots
 use Rattle.gettext_c.proofs.gettext_c_slots.Kinds as slots-kinds
 use Rattle.gettext_c.proofs.gettext_c_gettext_indexed.Reads as gettext-indexed
 use Rattle.gettext_c.proofs.gettext_c_gettext_indexed.Kinds as gettext-indexed-kinds
-use Rattle.gettext_c.proofs.gettext_c_pgettext_indexed.Reads as pgettext-indexed
-use Rattle.gettext_c.proofs.gettext_c_pgettext_indexed.Kinds as pgettext-indexed-kinds
 use Rattle.gettext_c.proofs.gettext_c_ngettext_indexed.Reads as ngettext-indexed
 use Rattle.gettext_c.proofs.gettext_c_ngettext_indexed.Kinds as ngettext-indexed-kinds
-use Rattle.gettext_c.proofs.gettext_c_npgettext_indexed.Reads as npgettext-indexed
-use Rattle.gettext_c.proofs.gettext_c_npgettext_indexed.Kinds as npgettext-indexed-kinds
 use Rattle.gettext_c.proofs.gettext_c_span.Reads as span
 use Rattle.gettext_c.proofs.gettext_c_span.Kinds as span-kinds
 use Rattle.gettext_c.proofs.gettext_c_text.Reads as text
@@ -78,20 +68,11 @@ load-one κs a u v x y p q = (same (p .number-is ∙ sym (q .number-is)) (p .sid
 pub gettext-one : One 1 gettext-kinds.ps gettext-kinds.r gettext.Post
 gettext-one κs a u v x y p q = p ∙ sym q
 
-pub pgettext-one : One 1 pgettext-kinds.ps pgettext-kinds.r pgettext.Post
-pgettext-one κs a u v x y p q = p ∙ sym q
-
 pub ngettext-one : One 1 ngettext-kinds.ps ngettext-kinds.r ngettext.Post
 ngettext-one κs a u v x y p q = p ∙ sym q
 
-pub npgettext-one : One 1 npgettext-kinds.ps npgettext-kinds.r npgettext.Post
-npgettext-one κs a u v x y p q = p ∙ sym q
-
 pub why-ngettext-one : One 1 why-ngettext-kinds.ps why-ngettext-kinds.r why-ngettext.Post
 why-ngettext-one κs a u v x y p q = p ∙ sym q
-
-pub why-npgettext-one : One 1 why-npgettext-kinds.ps why-npgettext-kinds.r why-npgettext.Post
-why-npgettext-one κs a u v x y p q = p ∙ sym q
 
 pub rating-one : One 1 rating-kinds.ps rating-kinds.r rating.Post
 rating-one κs a u v x y p q = p ∙ sym q
@@ -114,14 +95,8 @@ slots-one κs a u v x y p q = p ∙ sym q
 pub gettext-indexed-one : One 1 gettext-indexed-kinds.ps gettext-indexed-kinds.r gettext-indexed.Post
 gettext-indexed-one κs a u v x y p q = p ∙ sym q
 
-pub pgettext-indexed-one : One 1 pgettext-indexed-kinds.ps pgettext-indexed-kinds.r pgettext-indexed.Post
-pgettext-indexed-one κs a u v x y p q = p ∙ sym q
-
 pub ngettext-indexed-one : One 1 ngettext-indexed-kinds.ps ngettext-indexed-kinds.r ngettext-indexed.Post
 ngettext-indexed-one κs a u v x y p q = p ∙ sym q
-
-pub npgettext-indexed-one : One 1 npgettext-indexed-kinds.ps npgettext-indexed-kinds.r npgettext-indexed.Post
-npgettext-indexed-one κs a u v x y p q = p ∙ sym q
 
 abbrev index-left : (κs : Lfts 2) → AtExit (endedOf 2 index-kinds.ps index-kinds.r) κs → List ℕ
 index-left κs x = now (x .1 .1 .0)

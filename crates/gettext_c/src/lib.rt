@@ -11,7 +11,6 @@ use host::Written;
 use host::tables_in;
 use refusal::Outcome;
 ghost use mathlib.Core.Path.{_≡_};
-ghost use mathlib.Core.Bool.{true};
 ghost use Rattle.text_utf8.specs.Utf8.{utf8};
 ghost use Rattle.rules.specs.Pool.{pool};
 ghost use Rattle.rules.specs.Value.{truth};
@@ -22,7 +21,7 @@ ghost use Rattle.lookup_scan.specs.Keys.{keyOf};
 ghost use Rattle.lookup_slots.specs.Used.{used};
 ghost use Rattle.container.specs.Catalog.{load};
 ghost use Rattle.container_cost.specs.Cost.{cost};
-ghost use Rattle.host.specs.Host.{optionsOf, tablesIn, nodesIn, rootIn, answerOf, ownFor, ratingOf, fitsOf, valueOf};
+ghost use Rattle.host.specs.Host.{isSet, optionsOf, tablesIn, nodesIn, rootIn, answerOf, ownFor, ratingOf, fitsOf, valueOf};
 ghost use Rattle.host.specs.Explained.{explainedOf};
 ghost use Rattle.gettext_c.specs.Why.{whyCounted};
 ghost use Rattle.gettext_c.specs.Record.{Loads, IsEmpty, Indexes, found, counted, foundIn, countedIn, Writes};
@@ -60,31 +59,23 @@ pub extern "C" fn gettext_c_load<'a>(
     host::loaded_of(loading)
 }
 
+// A lookup without a count: `gettext`, and where `given` is set `pgettext`, whose context it is. Each lookup is one function with a flag for the
+// context, and not two, so that the compiler makes one piece of all that it calls.
 #[no_mangle]
 pub extern "C" fn gettext_c_gettext<'a>(
     file: &'a [u8],
     head: &'a [usize; 7],
-    id: &'a [u8],
-) -> Answer
-    ensures { λ r. ⌜ r ≡ answerOf 1 (found (now (file .entry)) (now (head .entry)) (now (id .entry))) ⌝ }
-{
-    let reason = lookup::find(file, tables_in(head), false, id, id);
-    host::answer_of(reason, 1)
-}
-
-#[no_mangle]
-pub extern "C" fn gettext_c_pgettext<'a>(
-    file: &'a [u8],
-    head: &'a [usize; 7],
+    given: u32,
     context: &'a [u8],
     id: &'a [u8],
 ) -> Answer
-    ensures { λ r. ⌜ r ≡ answerOf 1 (found (now (file .entry)) (now (head .entry)) (keyOf true (now (context .entry)) (now (id .entry)))) ⌝ }
+    ensures { λ r. ⌜ r ≡ answerOf 1 (found (now (file .entry)) (now (head .entry)) (keyOf (isSet given) (now (context .entry)) (now (id .entry)))) ⌝ }
 {
-    let reason = lookup::find(file, tables_in(head), true, context, id);
+    let reason = lookup::find(file, tables_in(head), given != 0, context, id);
     host::answer_of(reason, 1)
 }
 
+// A lookup with a count: `ngettext`, and where `given` is set `npgettext`.
 #[no_mangle]
 pub extern "C" fn gettext_c_ngettext<'a>(
     file: &'a [u8],
@@ -92,43 +83,13 @@ pub extern "C" fn gettext_c_ngettext<'a>(
     codes: &'a [u8; 512],
     places: &'a [u16; 1024],
     values: &'a [u64; 512],
-    id: &'a [u8],
-    n: u64,
-) -> Answer
-    ensures { λ r. ⌜ r ≡ answerOf (ownFor n) (counted (now (file .entry)) (now (head .entry))
-        (pool (now (codes .entry)) (now (places .entry)) (now (values .entry))) (now (id .entry)) n) ⌝ }
-{
-    let nodes = head[5];
-    let root = head[6];
-    let reason = lookup::nfind(
-        file,
-        tables_in(head),
-        codes,
-        places,
-        values,
-        nodes,
-        root,
-        false,
-        id,
-        id,
-        n,
-    );
-    host::answer_of(reason, host::own_for(n))
-}
-
-#[no_mangle]
-pub extern "C" fn gettext_c_npgettext<'a>(
-    file: &'a [u8],
-    head: &'a [usize; 7],
-    codes: &'a [u8; 512],
-    places: &'a [u16; 1024],
-    values: &'a [u64; 512],
+    given: u32,
     context: &'a [u8],
     id: &'a [u8],
     n: u64,
 ) -> Answer
     ensures { λ r. ⌜ r ≡ answerOf (ownFor n) (counted (now (file .entry)) (now (head .entry))
-        (pool (now (codes .entry)) (now (places .entry)) (now (values .entry))) (keyOf true (now (context .entry)) (now (id .entry))) n) ⌝ }
+        (pool (now (codes .entry)) (now (places .entry)) (now (values .entry))) (keyOf (isSet given) (now (context .entry)) (now (id .entry))) n) ⌝ }
 {
     let nodes = head[5];
     let root = head[6];
@@ -140,7 +101,7 @@ pub extern "C" fn gettext_c_npgettext<'a>(
         values,
         nodes,
         root,
-        true, // the key has the context
+        given != 0, // whether the key has a context
         context,
         id,
         n,
@@ -170,31 +131,19 @@ pub extern "C" fn gettext_c_index<'a>(
     lookup_index::number_of(building)
 }
 
-// The four lookups in slots that an index of this record and this file was built in. Other slots do no harm.
+// The same lookups in slots that an index of this record and this file was built in. Other slots do no harm.
 #[no_mangle]
 pub extern "C" fn gettext_c_gettext_indexed<'a>(
     file: &'a [u8],
     head: &'a [usize; 7],
     slots: &'a [u32],
-    id: &'a [u8],
-) -> Answer
-    ensures { λ r. ⌜ r ≡ answerOf 1 (foundIn (now (file .entry)) (now (head .entry)) (now (slots .entry)) (now (id .entry))) ⌝ }
-{
-    let reason = lookup::find_indexed(file, tables_in(head), slots, false, id, id);
-    host::answer_of(reason, 1)
-}
-
-#[no_mangle]
-pub extern "C" fn gettext_c_pgettext_indexed<'a>(
-    file: &'a [u8],
-    head: &'a [usize; 7],
-    slots: &'a [u32],
+    given: u32,
     context: &'a [u8],
     id: &'a [u8],
 ) -> Answer
-    ensures { λ r. ⌜ r ≡ answerOf 1 (foundIn (now (file .entry)) (now (head .entry)) (now (slots .entry)) (keyOf true (now (context .entry)) (now (id .entry)))) ⌝ }
+    ensures { λ r. ⌜ r ≡ answerOf 1 (foundIn (now (file .entry)) (now (head .entry)) (now (slots .entry)) (keyOf (isSet given) (now (context .entry)) (now (id .entry)))) ⌝ }
 {
-    let reason = lookup::find_indexed(file, tables_in(head), slots, true, context, id);
+    let reason = lookup::find_indexed(file, tables_in(head), slots, given != 0, context, id);
     host::answer_of(reason, 1)
 }
 
@@ -206,45 +155,13 @@ pub extern "C" fn gettext_c_ngettext_indexed<'a>(
     codes: &'a [u8; 512],
     places: &'a [u16; 1024],
     values: &'a [u64; 512],
-    id: &'a [u8],
-    n: u64,
-) -> Answer
-    ensures { λ r. ⌜ r ≡ answerOf (ownFor n) (countedIn (now (file .entry)) (now (head .entry)) (now (slots .entry))
-        (pool (now (codes .entry)) (now (places .entry)) (now (values .entry))) (now (id .entry)) n) ⌝ }
-{
-    let nodes = head[5];
-    let root = head[6];
-    let reason = lookup::nfind_indexed(
-        file,
-        tables_in(head),
-        slots,
-        codes,
-        places,
-        values,
-        nodes,
-        root,
-        false,
-        id,
-        id,
-        n,
-    );
-    host::answer_of(reason, host::own_for(n))
-}
-
-#[no_mangle]
-pub extern "C" fn gettext_c_npgettext_indexed<'a>(
-    file: &'a [u8],
-    head: &'a [usize; 7],
-    slots: &'a [u32],
-    codes: &'a [u8; 512],
-    places: &'a [u16; 1024],
-    values: &'a [u64; 512],
+    given: u32,
     context: &'a [u8],
     id: &'a [u8],
     n: u64,
 ) -> Answer
     ensures { λ r. ⌜ r ≡ answerOf (ownFor n) (countedIn (now (file .entry)) (now (head .entry)) (now (slots .entry))
-        (pool (now (codes .entry)) (now (places .entry)) (now (values .entry))) (keyOf true (now (context .entry)) (now (id .entry))) n) ⌝ }
+        (pool (now (codes .entry)) (now (places .entry)) (now (values .entry))) (keyOf (isSet given) (now (context .entry)) (now (id .entry))) n) ⌝ }
 {
     let nodes = head[5];
     let root = head[6];
@@ -257,7 +174,7 @@ pub extern "C" fn gettext_c_npgettext_indexed<'a>(
         values,
         nodes,
         root,
-        true, // and here
+        given != 0,
         context,
         id,
         n,
@@ -379,44 +296,13 @@ pub extern "C" fn gettext_c_why_ngettext<'a>(
     codes: &'a [u8; 512],
     places: &'a [u16; 1024],
     values: &'a [u64; 512],
-    id: &'a [u8],
-    n: u64,
-) -> Explained
-    ensures { λ r. ⌜ r ≡ explainedOf (ownFor n) (whyCounted (now (file .entry)) (now (head .entry))
-        (pool (now (codes .entry)) (now (places .entry)) (now (values .entry))) (now (id .entry)) n) ⌝ }
-{
-    let nodes = head[5];
-    let root = head[6];
-    let why = lookup_why::explain(
-        file,
-        tables_in(head),
-        codes,
-        places,
-        values,
-        nodes,
-        root,
-        false,
-        id,
-        id,
-        n,
-    );
-    host::explained_of(why, host::own_for(n))
-}
-
-// Why `gettext_c_npgettext` of the same answers as it does.
-#[no_mangle]
-pub extern "C" fn gettext_c_why_npgettext<'a>(
-    file: &'a [u8],
-    head: &'a [usize; 7],
-    codes: &'a [u8; 512],
-    places: &'a [u16; 1024],
-    values: &'a [u64; 512],
+    given: u32,
     context: &'a [u8],
     id: &'a [u8],
     n: u64,
 ) -> Explained
     ensures { λ r. ⌜ r ≡ explainedOf (ownFor n) (whyCounted (now (file .entry)) (now (head .entry))
-        (pool (now (codes .entry)) (now (places .entry)) (now (values .entry))) (keyOf true (now (context .entry)) (now (id .entry))) n) ⌝ }
+        (pool (now (codes .entry)) (now (places .entry)) (now (values .entry))) (keyOf (isSet given) (now (context .entry)) (now (id .entry))) n) ⌝ }
 {
     let nodes = head[5];
     let root = head[6];
@@ -428,10 +314,11 @@ pub extern "C" fn gettext_c_why_npgettext<'a>(
         values,
         nodes,
         root,
-        true,
+        given != 0,
         context,
         id,
         n,
     );
     host::explained_of(why, host::own_for(n))
 }
+

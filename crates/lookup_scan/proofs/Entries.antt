@@ -12,6 +12,7 @@ use Rattle.text.specs.Bytes.{place, same}
 use Rattle.text.proofs.Tests.{never, taken, left, by-test}
 use Rattle.text.proofs.Placed.{place-stands}
 use Rattle.text.proofs.Same.{same-true, same-refl}
+use Rattle.container_layout.specs.Mo as Mo
 use Rattle.container_layout.specs.Mo.{string, original, idStart, idEnd, ended, keyed, translated, entry}
 use Rattle.container_layout.specs.declared.Tables.{Tables}
 use Rattle.container_layout.specs.declared.Entry.{Entry}
@@ -36,6 +37,7 @@ pub record Made (s : List ℕ) (t : Tables) (i at n start size : ℕ) : Type 0 w
   pub original : string (t .big) s (t .originals) i ≡ stretch.At at len
   pub short : n ≤ len
   pub nul : getD s (at + n) 0 ≡ 0
+  pub end : n ≡ idEnd (Mo.original s at len)
   pub translation : string (t .big) s (t .translations) i ≡ stretch.At start size
 
 no-entry : {a n b m : ℕ} → entries.NoEntry ≡ entries.At a n b m → ⊥
@@ -53,6 +55,7 @@ module _ (s : List ℕ) (t : Tables) (i : ℕ) where
         original = e;
         short = omega arith;
         nul = sym (getD-drop a s (idEnd (original s a l)) 0) ∙ sym (getD-take (l + 1) (drop a s) (idEnd (original s a l)) 0 m) ∙ id-nul (original s a l) f;
+        end = refl;
         translation = g;
       }
 

@@ -1,15 +1,17 @@
 // The search for a key: the last entry that has it. From lib.rs: `key_with_context`, and `strings.get` of the lookups; a key is compared
 // where it lies, and nothing is built or copied.
-use container_layout::Entry;
 use container_layout::Stretch;
 use container_layout::Tables;
 use container_layout::wide;
 ghost use mathlib.Core.Path.{_≡_};
-ghost use lib.ListN.{length};
+ghost use Prim.Native.Nat.{_+_, _≤_};
+ghost use lib.Dec.{eqb};
+ghost use lib.ListN.{length, getD};
 ghost use Rattle.text.specs.Bytes.{same};
+ghost use Rattle.container_layout.specs.Mo.{string, idEnd};
 ghost use Rattle.lookup_scan.specs.Keys.{keyOf, lastWith};
 ghost use Rattle.lookup_scan.specs.Promise.{Sized, hitIf};
-ghost use Rattle.lookup_scan.specs.Private.{MayBe, ScanFrom};
+ghost use Rattle.lookup_scan.specs.Private.{MayBe, ScanFrom, Begun, Starts};
 
 // The entry with a key, and where its translation lies.
 pub enum Hit {
@@ -75,22 +77,55 @@ fn may_be(file: &[u8], t: Tables, i: usize, n: usize) -> bool
     file[end] == 0
 }
 
-// Entry i, where it has the key.
-fn found_at(file: &[u8], t: Tables, i: usize, given: bool, context: &[u8], id: &[u8]) -> Hit
-    ensures { λ r. ⌜ r ≡ hitIf (now (file .entry)) t (keyOf given (now (context .entry)) (now (id .entry))) i ⌝ }
+// Whether the id of an original that begins with the key and a NUL ends at that NUL. A key without bytes below 5 has no mark in it but the
+// byte 4 after a context, so that only a byte 4 further on could tell otherwise, and with a context none.
+fn ends_there(o: &[u8], n: usize, given: bool, context: &[u8], id: &[u8]) -> bool
+    requires { ⌜ (n ≡ length (keyOf given (now context) (now id))) × Begun (now o) (keyOf given (now context) (now id)) ⌝ }
+    ensures { λ r. ⌜ r ≡ eqb (idEnd (now (o .entry))) n ⌝ }
 {
-    let entry = container_layout::entry_at(file, t, i);
-    let Entry::At(at, size, start, len) = entry else {
-        return Hit::Missing;
-    };
-    let end = at + size;
-    if key_is(&file[at..end], given, context, id) {
-        return Hit::At(i, start, len);
+    if text::all_within(id, 5, 0xFF) {
+        if !given {
+            return text::find_byte_from(o, n + 1, 4) == o.len();
+        }
+        if text::all_within(context, 5, 0xFF) {
+            return true;
+        }
     }
-    Hit::Missing
+    let parts = container_layout::split(o);
+    parts.end == n
 }
 
-// The same, after the quick test, of a key that is n bytes long: what other searches ask of an entry.
+// Entry i, where it has the key of n bytes: its original is at a place, and after n bytes has a NUL.
+fn found_at(
+    file: &[u8],
+    t: Tables,
+    i: usize,
+    at: usize,
+    len: usize,
+    n: usize,
+    given: bool,
+    context: &[u8],
+    id: &[u8],
+) -> Hit
+    requires { ⌜ (n ≡ length (keyOf given (now context) (now id))) × Starts (now file) t i at len n ⌝ }
+    ensures { λ r. ⌜ r ≡ hitIf (now (file .entry)) t (keyOf given (now (context .entry)) (now (id .entry))) i ⌝ }
+{
+    let end = at + n;
+    if !key_is(&file[at..end], given, context, id) {
+        return Hit::Missing;
+    }
+    let after = at + len + 1;
+    if !ends_there(&file[at..after], n, given, context, id) {
+        return Hit::Missing;
+    }
+    let translation = container_layout::string_at(file, t.big, t.translations, i);
+    let Stretch::At(start, size) = translation else {
+        return Hit::Missing;
+    };
+    Hit::At(i, start, size)
+}
+
+// Entry i, where it has the key, which is n bytes long: what other searches ask of an entry. Most end at their length, or at the byte after n.
 pub fn hit_at(
     file: &[u8],
     t: Tables,
@@ -103,10 +138,18 @@ pub fn hit_at(
     requires { ⌜ n ≡ length (keyOf given (now context) (now id)) ⌝ }
     ensures { λ r. ⌜ r ≡ hitIf (now (file .entry)) t (keyOf given (now (context .entry)) (now (id .entry))) i ⌝ }
 {
-    if !may_be(file, t, i, n) {
+    let original = container_layout::string_at(file, t.big, t.originals, i);
+    let Stretch::At(at, size) = original else {
+        return Hit::Missing;
+    };
+    if size < n {
         return Hit::Missing;
     }
-    found_at(file, t, i, given, context, id)
+    let nul = at + n;
+    if file[nul] != 0 {
+        return Hit::Missing;
+    }
+    found_at(file, t, i, at, size, n, given, context, id)
 }
 
 // Where the scan starts: no index from there on has its cell in the file.
@@ -139,7 +182,7 @@ pub fn last_hit(file: &[u8], t: Tables, given: bool, context: &[u8], id: &[u8]) 
         passed += 1;
         let i = most - passed;
         if may_be(file, t, i, n) {
-            let hit = found_at(file, t, i, given, context, id);
+            let hit = hit_at(file, t, i, n, given, context, id);
             if let Hit::At(entry, start, len) = hit {
                 return Hit::At(entry, start, len);
             }

@@ -3,6 +3,7 @@ pub mod Walk
 pub mod Front
 pub mod Flags
 pub mod All
+pub mod Alike
 pub mod Bounds
 pub mod Cuts
 pub mod Placed

@@ -2,8 +2,9 @@
 use Prim.Native.Nat.{ℕ, _+_, _<_, _≤_}
 use mathlib.Core.Path.{_≡_}
 use mathlib.Core.Bool.{Bool, true, false, not}
-use mathlib.Core.List.{List}
+use mathlib.Core.List.{List, [], _∷_}
 use lib.ListN.{length, drop}
+use lib.Dec.{eqb}
 use Rattle.text.specs.Bytes.{within, front}
 use Rattle.text.specs.declared.Run.{Run}
 use Rattle.text.specs.declared.Run.the-variants.{Within, Without}
@@ -29,3 +30,15 @@ pub record Blocks (w : ℕ → Bool) (s : List ℕ) (from i : ℕ) : Type 0 wher
   pub after : from ≤ i
   pub inside : i ≤ length s
   pub stops : i + 16 ≤ length s → front w (drop i s) < 16
+
+-- two texts of one length, byte by byte: 0 where they are alike, and 1 where they are not
+abbrev pub differOf : ℕ → ℕ → ℕ
+differOf a b = elim (eqb a b) [ true ↦ 0 | false ↦ 1 ]
+
+unfoldable pub differences : List ℕ → List ℕ → List ℕ
+differences [] t = []
+differences (a ∷ s) [] = []
+differences (a ∷ s) (b ∷ t) = differOf a b ∷ differences s t
+
+abbrev pub alike : ℕ → Bool
+alike d = eqb d 0

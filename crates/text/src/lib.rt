@@ -6,7 +6,7 @@ ghost use Prim.Native.Nat.{_+_, _≤_};
 ghost use lib.ListN.{length, drop};
 ghost use lib.Dec.{leb};
 ghost use Rattle.text.specs.Bytes.{within, all, front, place, same, begins, first, small, read};
-ghost use Rattle.text.specs.Private.{inRun, Flags, Blocks};
+ghost use Rattle.text.specs.Private.{inRun, Flags, Blocks, differOf, differences, alike};
 
 // 1 for a byte that is not within the bounds.
 fn outside(b: u8, lo: u8, hi: u8) -> u8
@@ -197,11 +197,59 @@ fn equal_so(s: &[u8], other: &[u8], case: Case) -> bool
     begins_so(s, other, case)
 }
 
-// Whether two texts are the same.
+// 1 for two bytes that differ.
+fn differ(a: u8, b: u8) -> u8
+    ensures { λ r. ⌜ r ≡ differOf a b ⌝ }
+{
+    if a == b { 0 } else { 1 }
+}
+
+// Whether two texts have the same 16 bytes at a place. The flags are gathered as in `block`.
+fn same_block(s: &[u8], other: &[u8], i: usize) -> bool
+    requires { ⌜ (i + 16 ≤ length (now s)) × (length (now s) ≡ length (now other)) ⌝ }
+    ensures { λ r. ⌜ r ≡ leb 16 (front alike (drop i (differences (now (other .entry)) (now (s .entry))))) ⌝ }
+{
+    let mut z: u8 = 0;
+    let mut k = 0;
+    while k < 16 {
+        z = z | differ(other[i + k], s[i + k]);
+        k += 1;
+    }
+    z == 0
+}
+
+// Past as many blocks that are the same as there are.
+fn same_blocks(s: &[u8], other: &[u8]) -> usize
+    requires { ⌜ length (now s) ≡ length (now other) ⌝ }
+    ensures { λ r. ⌜ Blocks alike (differences (now (other .entry)) (now (s .entry))) 0 r ⌝ }
+{
+    let n = s.len();
+    let mut at = 0;
+    while 16 <= n - at {
+        if same_block(s, other, at) {
+            at += 16;
+        } else {
+            return at;
+        }
+    }
+    at
+}
+
+// Whether two texts are the same: by blocks, the last of which ends with them, or byte by byte where they are short.
 pub fn equal(s: &[u8], other: &[u8]) -> bool
     ensures { λ r. ⌜ r ≡ same (now (other .entry)) (now (s .entry)) ⌝ }
 {
-    equal_so(s, other, Case::AsWritten)
+    let n = s.len();
+    if n < 16 {
+        return equal_so(s, other, Case::AsWritten);
+    }
+    if n != other.len() {
+        return false;
+    }
+    if 16 <= n - same_blocks(s, other) {
+        return false;
+    }
+    same_block(s, other, n - 16)
 }
 
 // Whether a text in small letters is the other text.

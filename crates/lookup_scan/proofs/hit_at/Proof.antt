@@ -1,23 +1,56 @@
--- What the quick test rules out has not the key. Assumes nothing.
-use mathlib.Core.Path.{sym}
-use borrow.Author.Tests.{not-true}
+-- What the quick tests rule out has not the key. Assumes nothing.
+use mathlib.Core.Path.{_≡_, refl, sym, _∙_}
+use borrow.Author.Tests.{ne-eqb}
+use Rattle.container_layout.proofs.Cells.{string-told}
 use Rattle.lookup_scan.specs.Keys.{keyOf}
+use Rattle.lookup_scan.proofs.Entries.{may-not-outside, may-not-short, may-by-nul}
 use Rattle.lookup_scan.proofs.Scan.{hit-false}
 use borrow.Author.Needs.{needs}
+use native.Mathlib.Omega.{arith}
 use Rattle.lookup_scan.proofs.hit_at.Statement.{statement}
 use Rattle.lookup_scan.proofs.hit_at.Tie as tie
 
-may-be-requires : tie.Need-may-be-requires
-may-be-requires c κs = search needs
+string-at-requires : tie.Need-string-at-requires
+string-at-requires c κs = search needs
+
+enum-known-original : tie.Need-enum-known-original
+enum-known-original c = search needs
+
+enum-told : tie.Need-enum-told
+enum-told c = search needs
 
 returns : tie.Need-returns
-returns c = hit-false (c .before .before .before .before .before .args .file .now) (c .before .before .before .before .before .args .t) _ (c .before .before .before .before .before .args .i) (c .before .may-be .ensures .no (not-true _ (c .if1 .taken)) (keyOf (c .before .before .before .before .before .args .given) (c .before .before .before .before .before .args .context .now) (c .before .before .before .before .before .args .id .now)) (sym (c .before .before .before .before .before .pre)))
-
-found-at-requires : tie.Need-found-at-requires
-found-at-requires c κs = search needs
+returns c = hit-false (c .before .before .before .before .before .before .args .file .now) (c .before .before .before .before .before .before .args .t) (keyOf (c .before .before .before .before .before .before .args .given) (c .before .before .before .before .before .before .args .context .now) (c .before .before .before .before .before .before .args .id .now)) (c .before .before .before .before .before .before .args .i) (may-not-outside _ _ _ (c .before .before .before .before .before .before .args .n) (c .before .before .string-at .ensures) (c .enum-told .given .1) .no refl _ (sym (c .before .before .before .before .before .before .pre)))
 
 returns-2 : tie.Need-returns-2
-returns-2 c = c .found-at .ensures
+returns-2 c = hit-false (c .before .before .before .before .before .before .before .before .args .file .now) (c .before .before .before .before .before .before .before .before .args .t) (keyOf (c .before .before .before .before .before .before .before .before .args .given) (c .before .before .before .before .before .before .before .before .args .context .now) (c .before .before .before .before .before .before .before .before .args .id .now)) (c .before .before .before .before .before .before .before .before .args .i) (may-not-short _ _ _ (c .before .before .before .before .before .before .before .before .args .n) (c .before .before .before .before .string-at .ensures) (c .before .before .original .given .1) (c .if1 .taken) .no refl _ (sym (c .before .before .before .before .before .before .before .before .pre)))
+
+add-nul : tie.Need-add-nul
+add-nul c = omega (arith, string-told _ _ _ _ (sym (c .before .before .before .before .string-at .ensures) ∙ c .before .before .original .given .1))
+
+shared-slice-read-if2 : tie.Need-shared-slice-read-if2
+shared-slice-read-if2 c = omega (arith, string-told _ _ _ _ (sym (c .before .before .before .before .before .string-at .ensures) ∙ c .before .before .before .original .given .1))
+
+returns-3 : tie.Need-returns-3
+returns-3 c = hit-false (c .before .before .before .before .before .before .before .before .before .before .args .file .now) (c .before .before .before .before .before .before .before .before .before .before .args .t) (keyOf (c .before .before .before .before .before .before .before .before .before .before .args .given) (c .before .before .before .before .before .before .before .before .before .before .args .context .now) (c .before .before .before .before .before .before .before .before .before .before .args .id .now)) (c .before .before .before .before .before .before .before .before .before .before .args .i) (may-by-nul _ _ _ (c .before .before .before .before .before .before .before .before .before .before .args .n) (c .before .before .before .before .before .before .string-at .ensures) (c .before .before .before .before .original .given .1) (c .before .before .if1 .left) .no (ne-eqb _ _ (c .if2 .taken)) _ (sym (c .before .before .before .before .before .before .before .before .before .before .pre)))
+
+found-at-requires : tie.Need-found-at-requires
+found-at-requires c κs = (c .before .before .before .before .before .before .before .before .before .before .pre, record { original = sym (c .before .before .before .before .before .before .string-at .ensures) ∙ c .before .before .before .before .original .given .1; long = c .before .before .if1 .left; nul = c .if2 .left })
+
+returns-4 : tie.Need-returns-4
+returns-4 c = c .found-at .ensures
 
 pub hit-at-spec : {M : Type 1} → statement M
-hit-at-spec = tie.close (tie.spec may-be-requires returns found-at-requires returns-2)
+hit-at-spec =
+    tie.close
+    (tie.spec
+    string-at-requires
+    enum-known-original
+    enum-told
+    returns
+    returns-2
+    add-nul
+    shared-slice-read-if2
+    returns-3
+    found-at-requires
+    returns-4)

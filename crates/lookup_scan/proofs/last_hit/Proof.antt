@@ -43,14 +43,14 @@ sub-i c = search needs
 may-be-requires : tie.Need-may-be-requires Inv-loop μ-loop
 may-be-requires c κs = search needs
 
-found-at-requires : tie.Need-found-at-requires Inv-loop μ-loop
-found-at-requires c κs = search needs
+hit-at-requires : tie.Need-hit-at-requires Inv-loop μ-loop
+hit-at-requires c κs = search needs
 
 enum-known-hit : tie.Need-enum-known-hit Inv-loop μ-loop
 enum-known-hit c = search needs
 
 returns-2 : tie.Need-returns-2 Inv-loop μ-loop
-returns-2 c = passed-hit _ _ _ (omega arith) (c .before .before .before .found-at .ensures) (c .before .before .before .before .before .before .before .loop .inv .2) (c .before .hit .given .1)
+returns-2 c = passed-hit _ _ _ (omega arith) (c .before .before .before .hit-at .ensures) (c .before .before .before .before .before .before .before .loop .inv .2) (c .before .hit .given .1)
 
 enum-told-2 : tie.Need-enum-told-2 Inv-loop μ-loop
 enum-told-2 c = search needs
@@ -59,7 +59,7 @@ loop-less : tie.Need-loop-less Inv-loop μ-loop
 loop-less c = search needs
 
 loop-again : tie.Need-loop-again Inv-loop μ-loop
-loop-again c = (c .before .before .before .before .before .before .loop .inv .0, omega arith, passed-miss _ _ _ (omega arith) (c .before .before .found-at .ensures) (c .before .before .before .before .before .before .loop .inv .2) (c .enum-told2 .given .1))
+loop-again c = (c .before .before .before .before .before .before .loop .inv .0, omega arith, passed-miss _ _ _ (omega arith) (c .before .before .hit-at .ensures) (c .before .before .before .before .before .before .loop .inv .2) (c .enum-told2 .given .1))
 
 loop-less-2 : tie.Need-loop-less-2 Inv-loop μ-loop
 loop-less-2 c = search needs
@@ -85,7 +85,7 @@ last-hit-spec =
     add-passed
     sub-i
     may-be-requires
-    found-at-requires
+    hit-at-requires
     enum-known-hit
     returns-2
     enum-told-2
