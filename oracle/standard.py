@@ -69,7 +69,7 @@ def port(folder):
     lib.gettext_c_load.restype = Loaded
     lib.gettext_c_resolve.argtypes = [POINTER(Head)] + rule + [c_uint64]
     lib.gettext_c_resolve.restype = Form
-    lib.gettext_c_ngettext.argtypes = [c_char_p, c_size_t, POINTER(Head)] + rule + [c_char_p, c_size_t, c_uint64]
+    lib.gettext_c_ngettext.argtypes = [c_char_p, c_size_t, POINTER(Head)] + rule + [c_uint32] + [c_char_p, c_size_t] * 2 + [c_uint64]
     lib.gettext_c_ngettext.restype = Answer
     return lib
 
@@ -94,7 +94,7 @@ class Port:
         return form.form if form.number == 0 else None
 
     def ngettext(self, file, loaded, key, plural, n):
-        a = self.lib.gettext_c_ngettext(file, len(file), byref(loaded.head), *loaded.rule(), key, len(key), n)
+        a = self.lib.gettext_c_ngettext(file, len(file), byref(loaded.head), *loaded.rule(), 0, b"", 0, key, len(key), n)
         text = [file[a.start : a.start + a.len], key, plural][a.which]
         return a.number, a.which, text
 

@@ -177,31 +177,23 @@ GR_LAYOUT(gr_explained, sizeof(gr_explained) == 64);
 
 /*
  * The exported functions, as the library has them: pointers and lengths, none of them null, also where the length is 0. A host rather calls
- * the gr_ functions below. A flag is set by any number but 0.
+ * the gr_ functions below. A flag is set by any number but 0; `given` says that a context is given.
  */
 gr_loaded gettext_c_empty(uint8_t codes[512], uint16_t places[1024], uint64_t values[512]);
 gr_loaded gettext_c_load(const uint8_t *file, size_t file_len, const uint8_t *rule, size_t rule_len, uint32_t forced, uint32_t standard,
                          uint32_t utf8, uint8_t codes[512], uint16_t places[1024], uint64_t values[512]);
-gr_answer gettext_c_gettext(const uint8_t *file, size_t file_len, const gr_head *head, const uint8_t *id, size_t id_len);
-gr_answer gettext_c_pgettext(const uint8_t *file, size_t file_len, const gr_head *head, const uint8_t *context, size_t context_len,
-                             const uint8_t *id, size_t id_len);
+gr_answer gettext_c_gettext(const uint8_t *file, size_t file_len, const gr_head *head, uint32_t given, const uint8_t *context,
+                            size_t context_len, const uint8_t *id, size_t id_len);
 gr_answer gettext_c_ngettext(const uint8_t *file, size_t file_len, const gr_head *head, const uint8_t codes[512],
-                             const uint16_t places[1024], const uint64_t values[512], const uint8_t *id, size_t id_len, uint64_t n);
-gr_answer gettext_c_npgettext(const uint8_t *file, size_t file_len, const gr_head *head, const uint8_t codes[512],
-                              const uint16_t places[1024], const uint64_t values[512], const uint8_t *context, size_t context_len,
-                              const uint8_t *id, size_t id_len, uint64_t n);
+                             const uint16_t places[1024], const uint64_t values[512], uint32_t given, const uint8_t *context,
+                             size_t context_len, const uint8_t *id, size_t id_len, uint64_t n);
 size_t gettext_c_slots(const gr_head *head);
 uint32_t gettext_c_index(const uint8_t *file, size_t file_len, const gr_head *head, uint32_t *slots, size_t slots_len);
 gr_answer gettext_c_gettext_indexed(const uint8_t *file, size_t file_len, const gr_head *head, const uint32_t *slots, size_t slots_len,
-                                    const uint8_t *id, size_t id_len);
-gr_answer gettext_c_pgettext_indexed(const uint8_t *file, size_t file_len, const gr_head *head, const uint32_t *slots, size_t slots_len,
-                                     const uint8_t *context, size_t context_len, const uint8_t *id, size_t id_len);
+                                    uint32_t given, const uint8_t *context, size_t context_len, const uint8_t *id, size_t id_len);
 gr_answer gettext_c_ngettext_indexed(const uint8_t *file, size_t file_len, const gr_head *head, const uint32_t *slots, size_t slots_len,
-                                     const uint8_t codes[512], const uint16_t places[1024], const uint64_t values[512], const uint8_t *id,
-                                     size_t id_len, uint64_t n);
-gr_answer gettext_c_npgettext_indexed(const uint8_t *file, size_t file_len, const gr_head *head, const uint32_t *slots, size_t slots_len,
-                                      const uint8_t codes[512], const uint16_t places[1024], const uint64_t values[512],
-                                      const uint8_t *context, size_t context_len, const uint8_t *id, size_t id_len, uint64_t n);
+                                     const uint8_t codes[512], const uint16_t places[1024], const uint64_t values[512], uint32_t given,
+                                     const uint8_t *context, size_t context_len, const uint8_t *id, size_t id_len, uint64_t n);
 gr_range gettext_c_rating(const gr_head *head, const uint8_t codes[512], const uint16_t places[1024], const uint64_t values[512]);
 gr_fit gettext_c_fits(const gr_head *head, const uint8_t codes[512], const uint16_t places[1024], const uint64_t values[512], uint64_t k);
 gr_form gettext_c_resolve(const gr_head *head, const uint8_t codes[512], const uint16_t places[1024], const uint64_t values[512],
@@ -211,10 +203,8 @@ uint32_t gettext_c_span(const gr_head *head, const uint8_t codes[512], const uin
 gr_written gettext_c_text(const gr_head *head, const uint8_t codes[512], const uint16_t places[1024], const uint64_t values[512],
                           uint8_t *buffer, size_t buffer_len);
 gr_explained gettext_c_why_ngettext(const uint8_t *file, size_t file_len, const gr_head *head, const uint8_t codes[512],
-                                    const uint16_t places[1024], const uint64_t values[512], const uint8_t *id, size_t id_len, uint64_t n);
-gr_explained gettext_c_why_npgettext(const uint8_t *file, size_t file_len, const gr_head *head, const uint8_t codes[512],
-                                     const uint16_t places[1024], const uint64_t values[512], const uint8_t *context, size_t context_len,
-                                     const uint8_t *id, size_t id_len, uint64_t n);
+                                    const uint16_t places[1024], const uint64_t values[512], uint32_t given, const uint8_t *context,
+                                    size_t context_len, const uint8_t *id, size_t id_len, uint64_t n);
 uint32_t gettext_c_is_utf8(const uint8_t *text, size_t text_len);
 uint64_t gettext_c_cost(const uint8_t *file, size_t file_len);
 
@@ -332,45 +322,45 @@ static inline uint32_t gr_load(const void *file, size_t file_len, const gr_optio
 /* The translation of the id, alone or in a context. Without one: the id, with number 0. */
 static inline gr_text gr_gettext(const void *file, size_t file_len, const gr_record *r, const char *id)
 {
-    gr_answer a = gettext_c_gettext(gr_bytes(file), gr_size(file, file_len), &r->head, gr_bytes(id), gr_length(id));
+    gr_answer a = gettext_c_gettext(gr_bytes(file), gr_size(file, file_len), &r->head, 0, gr_bytes(NULL), 0, gr_bytes(id), gr_length(id));
     return gr_text_of(a, file, id, id);
 }
 
 static inline gr_text gr_pgettext(const void *file, size_t file_len, const gr_record *r, const char *context, const char *id)
 {
-    gr_answer a = gettext_c_pgettext(gr_bytes(file), gr_size(file, file_len), &r->head, gr_bytes(context), gr_length(context),
-                                     gr_bytes(id), gr_length(id));
+    gr_answer a = gettext_c_gettext(gr_bytes(file), gr_size(file, file_len), &r->head, 1, gr_bytes(context), gr_length(context),
+                                    gr_bytes(id), gr_length(id));
     return gr_text_of(a, file, id, id);
 }
 
 /* The same in the form for the count n. Without one: the id if n is 1, the plural id otherwise. */
 static inline gr_text gr_ngettext(const void *file, size_t file_len, const gr_record *r, const char *id, const char *plural_id, uint64_t n)
 {
-    gr_answer a = gettext_c_ngettext(gr_bytes(file), gr_size(file, file_len), &r->head, r->codes, r->places, r->values, gr_bytes(id),
-                                     gr_length(id), n);
+    gr_answer a = gettext_c_ngettext(gr_bytes(file), gr_size(file, file_len), &r->head, r->codes, r->places, r->values, 0, gr_bytes(NULL), 0,
+                                     gr_bytes(id), gr_length(id), n);
     return gr_text_of(a, file, id, plural_id);
 }
 
 static inline gr_text gr_npgettext(const void *file, size_t file_len, const gr_record *r, const char *context, const char *id,
                                    const char *plural_id, uint64_t n)
 {
-    gr_answer a = gettext_c_npgettext(gr_bytes(file), gr_size(file, file_len), &r->head, r->codes, r->places, r->values,
-                                      gr_bytes(context), gr_length(context), gr_bytes(id), gr_length(id), n);
+    gr_answer a = gettext_c_ngettext(gr_bytes(file), gr_size(file, file_len), &r->head, r->codes, r->places, r->values, 1,
+                                     gr_bytes(context), gr_length(context), gr_bytes(id), gr_length(id), n);
     return gr_text_of(a, file, id, plural_id);
 }
 
 /* Why gr_ngettext and gr_npgettext of the same answer as they do; the text that they give is gr_text_why's. */
 static inline gr_explained gr_why_ngettext(const void *file, size_t file_len, const gr_record *r, const char *id, uint64_t n)
 {
-    return gettext_c_why_ngettext(gr_bytes(file), gr_size(file, file_len), &r->head, r->codes, r->places, r->values, gr_bytes(id),
-                                  gr_length(id), n);
+    return gettext_c_why_ngettext(gr_bytes(file), gr_size(file, file_len), &r->head, r->codes, r->places, r->values, 0, gr_bytes(NULL), 0,
+                                  gr_bytes(id), gr_length(id), n);
 }
 
 static inline gr_explained gr_why_npgettext(const void *file, size_t file_len, const gr_record *r, const char *context, const char *id,
                                             uint64_t n)
 {
-    return gettext_c_why_npgettext(gr_bytes(file), gr_size(file, file_len), &r->head, r->codes, r->places, r->values, gr_bytes(context),
-                                   gr_length(context), gr_bytes(id), gr_length(id), n);
+    return gettext_c_why_ngettext(gr_bytes(file), gr_size(file, file_len), &r->head, r->codes, r->places, r->values, 1, gr_bytes(context),
+                                  gr_length(context), gr_bytes(id), gr_length(id), n);
 }
 
 /* The text that a reason leads to. */
@@ -422,15 +412,15 @@ static inline gr_text gr_gettext_indexed(const void *file, size_t file_len, cons
                                          const char *id)
 {
     gr_answer a = gettext_c_gettext_indexed(gr_bytes(file), gr_size(file, file_len), &r->head, gr_none(slots), gr_size(slots, slots_len),
-                                            gr_bytes(id), gr_length(id));
+                                            0, gr_bytes(NULL), 0, gr_bytes(id), gr_length(id));
     return gr_text_of(a, file, id, id);
 }
 
 static inline gr_text gr_pgettext_indexed(const void *file, size_t file_len, const gr_record *r, const uint32_t *slots, size_t slots_len,
                                           const char *context, const char *id)
 {
-    gr_answer a = gettext_c_pgettext_indexed(gr_bytes(file), gr_size(file, file_len), &r->head, gr_none(slots), gr_size(slots, slots_len),
-                                             gr_bytes(context), gr_length(context), gr_bytes(id), gr_length(id));
+    gr_answer a = gettext_c_gettext_indexed(gr_bytes(file), gr_size(file, file_len), &r->head, gr_none(slots), gr_size(slots, slots_len),
+                                            1, gr_bytes(context), gr_length(context), gr_bytes(id), gr_length(id));
     return gr_text_of(a, file, id, id);
 }
 
@@ -438,7 +428,7 @@ static inline gr_text gr_ngettext_indexed(const void *file, size_t file_len, con
                                           const char *id, const char *plural_id, uint64_t n)
 {
     gr_answer a = gettext_c_ngettext_indexed(gr_bytes(file), gr_size(file, file_len), &r->head, gr_none(slots), gr_size(slots, slots_len),
-                                             r->codes, r->places, r->values, gr_bytes(id), gr_length(id), n);
+                                             r->codes, r->places, r->values, 0, gr_bytes(NULL), 0, gr_bytes(id), gr_length(id), n);
     return gr_text_of(a, file, id, plural_id);
 }
 
@@ -446,8 +436,8 @@ static inline gr_text gr_npgettext_indexed(const void *file, size_t file_len, co
                                            const char *context, const char *id, const char *plural_id, uint64_t n)
 {
     gr_answer a =
-        gettext_c_npgettext_indexed(gr_bytes(file), gr_size(file, file_len), &r->head, gr_none(slots), gr_size(slots, slots_len), r->codes,
-                                    r->places, r->values, gr_bytes(context), gr_length(context), gr_bytes(id), gr_length(id), n);
+        gettext_c_ngettext_indexed(gr_bytes(file), gr_size(file, file_len), &r->head, gr_none(slots), gr_size(slots, slots_len), r->codes,
+                                   r->places, r->values, 1, gr_bytes(context), gr_length(context), gr_bytes(id), gr_length(id), n);
     return gr_text_of(a, file, id, plural_id);
 }
 

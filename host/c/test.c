@@ -129,7 +129,7 @@ static void lookups(void)
     CHECK(is(gr_ngettext(g, 50, &r, "z", "zs", 2), 0, "zs"));
     CHECK(is(gr_npgettext(g, 50, &r, "x", "a", "as", 2), 0, "as"));
     gr_answer a =
-        gettext_c_ngettext(g, 50, &r.head, r.codes, r.places, r.values, (const uint8_t *)"a", 1, 7);
+        gettext_c_ngettext(g, 50, &r.head, r.codes, r.places, r.values, 0, (const uint8_t *)"", 0, (const uint8_t *)"a", 1, 7);
     CHECK(a.number == 0 && a.which == GR_SEGMENT && a.entry == 0 && a.form == 1 && a.start == 48 && a.len == 1);
     CHECK(gr_load(g, 50, with("1%n", GR_STANDARD), &r) == GR_OK);
     CHECK(is(gr_ngettext(g, 50, &r, "a", "as", 0), GR_ZERO_MODULUS, "as"));

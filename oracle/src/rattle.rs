@@ -166,32 +166,30 @@ impl<'a> Ours<'a> {
     }
 
     pub fn gettext(&self, file: &[u8], id: &[u8]) -> Answer {
-        let ask = |slots: Option<&[u32]>| ffi::gettext(file, self.catalog, slots, id);
+        let ask = |slots: Option<&[u32]>| ffi::gettext(file, self.catalog, slots, None, id);
         self.both(ask(None), ask)
     }
 
     pub fn pgettext(&self, file: &[u8], context: &[u8], id: &[u8]) -> Answer {
-        let ask = |slots: Option<&[u32]>| ffi::pgettext(file, self.catalog, slots, context, id);
+        let ask = |slots: Option<&[u32]>| ffi::gettext(file, self.catalog, slots, Some(context), id);
         self.both(ask(None), ask)
     }
 
     pub fn ngettext(&self, file: &[u8], id: &[u8], n: u64) -> Answer {
-        let ask = |slots: Option<&[u32]>| ffi::ngettext(file, self.catalog, slots, id, n);
+        let ask = |slots: Option<&[u32]>| ffi::ngettext(file, self.catalog, slots, None, id, n);
         self.both(ask(None), ask)
     }
 
     pub fn npgettext(&self, file: &[u8], context: &[u8], id: &[u8], n: u64) -> Answer {
-        let ask = |slots: Option<&[u32]>| ffi::npgettext(file, self.catalog, slots, context, id, n);
+        let ask = |slots: Option<&[u32]>| ffi::ngettext(file, self.catalog, slots, Some(context), id, n);
         self.both(ask(None), ask)
     }
 
     // The four lookups in slots alone.
     pub fn in_slots(&self, slots: &[u32], file: &[u8], context: Option<&[u8]>, id: &[u8], n: Option<u64>) -> Answer {
-        match (context, n) {
-            (None, None) => ffi::gettext(file, self.catalog, Some(slots), id),
-            (Some(context), None) => ffi::pgettext(file, self.catalog, Some(slots), context, id),
-            (None, Some(n)) => ffi::ngettext(file, self.catalog, Some(slots), id, n),
-            (Some(context), Some(n)) => ffi::npgettext(file, self.catalog, Some(slots), context, id, n),
+        match n {
+            None => ffi::gettext(file, self.catalog, Some(slots), context, id),
+            Some(n) => ffi::ngettext(file, self.catalog, Some(slots), context, id, n),
         }
     }
 

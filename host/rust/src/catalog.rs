@@ -221,6 +221,7 @@ impl<B: Bytes, S: Search> Catalog<B, S> {
             self.file.bytes(),
             &self.record,
             self.search.slots(),
+            None,
             msg_id.as_bytes(),
         );
         self.text(answer, msg_id, msg_id)
@@ -241,6 +242,7 @@ impl<B: Bytes, S: Search> Catalog<B, S> {
             self.file.bytes(),
             &self.record,
             self.search.slots(),
+            None,
             msg_id.as_bytes(),
             n,
         );
@@ -254,11 +256,11 @@ impl<B: Bytes, S: Search> Catalog<B, S> {
         B: Live<'c, 't>,
     {
         let (context, id) = (msg_context.as_bytes(), msg_id.as_bytes());
-        let answer = ffi::pgettext(
+        let answer = ffi::gettext(
             self.file.bytes(),
             &self.record,
             self.search.slots(),
-            context,
+            Some(context),
             id,
         );
         self.text(answer, msg_id, msg_id)
@@ -277,11 +279,11 @@ impl<B: Bytes, S: Search> Catalog<B, S> {
         B: Live<'c, 't>,
     {
         let (context, id) = (msg_context.as_bytes(), msg_id.as_bytes());
-        let answer = ffi::npgettext(
+        let answer = ffi::ngettext(
             self.file.bytes(),
             &self.record,
             self.search.slots(),
-            context,
+            Some(context),
             id,
             n,
         );
@@ -294,7 +296,13 @@ impl<B: Bytes, S: Search> Catalog<B, S> {
     where
         B: Live<'c, 't>,
     {
-        let answer = ffi::gettext(self.file.bytes(), &self.record, self.search.slots(), msg_id);
+        let answer = ffi::gettext(
+            self.file.bytes(),
+            &self.record,
+            self.search.slots(),
+            None,
+            msg_id,
+        );
         self.bytes(answer, msg_id, msg_id)
     }
 
@@ -313,6 +321,7 @@ impl<B: Bytes, S: Search> Catalog<B, S> {
             self.file.bytes(),
             &self.record,
             self.search.slots(),
+            None,
             msg_id,
             n,
         );
@@ -325,11 +334,11 @@ impl<B: Bytes, S: Search> Catalog<B, S> {
     where
         B: Live<'c, 't>,
     {
-        let answer = ffi::pgettext(
+        let answer = ffi::gettext(
             self.file.bytes(),
             &self.record,
             self.search.slots(),
-            msg_context,
+            Some(msg_context),
             msg_id,
         );
         self.bytes(answer, msg_id, msg_id)
@@ -347,11 +356,11 @@ impl<B: Bytes, S: Search> Catalog<B, S> {
     where
         B: Live<'c, 't>,
     {
-        let answer = ffi::npgettext(
+        let answer = ffi::ngettext(
             self.file.bytes(),
             &self.record,
             self.search.slots(),
-            msg_context,
+            Some(msg_context),
             msg_id,
             n,
         );

@@ -150,13 +150,7 @@ extern "C" {
         file: *const u8,
         file_len: usize,
         head: *const Head,
-        id: *const u8,
-        id_len: usize,
-    ) -> Answer;
-    fn gettext_c_pgettext(
-        file: *const u8,
-        file_len: usize,
-        head: *const Head,
+        given: u32,
         context: *const u8,
         context_len: usize,
         id: *const u8,
@@ -169,17 +163,7 @@ extern "C" {
         codes: *const [u8; 512],
         places: *const [u16; 1024],
         values: *const [u64; 512],
-        id: *const u8,
-        id_len: usize,
-        n: u64,
-    ) -> Answer;
-    fn gettext_c_npgettext(
-        file: *const u8,
-        file_len: usize,
-        head: *const Head,
-        codes: *const [u8; 512],
-        places: *const [u16; 1024],
-        values: *const [u64; 512],
+        given: u32,
         context: *const u8,
         context_len: usize,
         id: *const u8,
@@ -200,15 +184,7 @@ extern "C" {
         head: *const Head,
         slots: *const u32,
         slots_len: usize,
-        id: *const u8,
-        id_len: usize,
-    ) -> Answer;
-    fn gettext_c_pgettext_indexed(
-        file: *const u8,
-        file_len: usize,
-        head: *const Head,
-        slots: *const u32,
-        slots_len: usize,
+        given: u32,
         context: *const u8,
         context_len: usize,
         id: *const u8,
@@ -223,19 +199,7 @@ extern "C" {
         codes: *const [u8; 512],
         places: *const [u16; 1024],
         values: *const [u64; 512],
-        id: *const u8,
-        id_len: usize,
-        n: u64,
-    ) -> Answer;
-    fn gettext_c_npgettext_indexed(
-        file: *const u8,
-        file_len: usize,
-        head: *const Head,
-        slots: *const u32,
-        slots_len: usize,
-        codes: *const [u8; 512],
-        places: *const [u16; 1024],
-        values: *const [u64; 512],
+        given: u32,
         context: *const u8,
         context_len: usize,
         id: *const u8,
@@ -286,17 +250,7 @@ extern "C" {
         codes: *const [u8; 512],
         places: *const [u16; 1024],
         values: *const [u64; 512],
-        id: *const u8,
-        id_len: usize,
-        n: u64,
-    ) -> Explained;
-    fn gettext_c_why_npgettext(
-        file: *const u8,
-        file_len: usize,
-        head: *const Head,
-        codes: *const [u8; 512],
-        places: *const [u16; 1024],
-        values: *const [u64; 512],
+        given: u32,
         context: *const u8,
         context_len: usize,
         id: *const u8,
@@ -381,13 +335,38 @@ pub fn index(file: &[u8], r: &Record, slots: &mut [u32]) -> u32 {
     }
 }
 
-// The four lookups: in slots where an index is given, else by the scan. In each, what goes as a pointer lives for the call and is only read.
+// The lookups: in slots where an index is given, else by the scan; with the context, where one is given. In each, what goes as a pointer lives
+// for the call and is only read.
 
-pub fn gettext(file: &[u8], r: &Record, slots: Option<&[u32]>, id: &[u8]) -> Answer {
+/// Whether a context is given, and its bytes.
+fn flagged(context: Option<&[u8]>) -> (u32, &[u8]) {
+    (u32::from(context.is_some()), context.unwrap_or(&[]))
+}
+
+/// `gettext`, and with a context `pgettext`.
+pub fn gettext(
+    file: &[u8],
+    r: &Record,
+    slots: Option<&[u32]>,
+    context: Option<&[u8]>,
+    id: &[u8],
+) -> Answer {
     let (bytes, size) = (file.as_ptr(), file.len());
+    let (given, context) = flagged(context);
     match slots {
         // SAFETY: see above.
-        None => unsafe { gettext_c_gettext(bytes, size, &r.head, id.as_ptr(), id.len()) },
+        None => unsafe {
+            gettext_c_gettext(
+                bytes,
+                size,
+                &r.head,
+                given,
+                context.as_ptr(),
+                context.len(),
+                id.as_ptr(),
+                id.len(),
+            )
+        },
         // SAFETY: see above.
         Some(slots) => unsafe {
             gettext_c_gettext_indexed(
@@ -396,6 +375,9 @@ pub fn gettext(file: &[u8], r: &Record, slots: Option<&[u32]>, id: &[u8]) -> Ans
                 &r.head,
                 slots.as_ptr(),
                 slots.len(),
+                given,
+                context.as_ptr(),
+                context.len(),
                 id.as_ptr(),
                 id.len(),
             )
@@ -403,46 +385,17 @@ pub fn gettext(file: &[u8], r: &Record, slots: Option<&[u32]>, id: &[u8]) -> Ans
     }
 }
 
-pub fn pgettext(
+/// `ngettext`, and with a context `npgettext`.
+pub fn ngettext(
     file: &[u8],
     r: &Record,
     slots: Option<&[u32]>,
-    context: &[u8],
+    context: Option<&[u8]>,
     id: &[u8],
+    n: u64,
 ) -> Answer {
     let (bytes, size) = (file.as_ptr(), file.len());
-    match slots {
-        // SAFETY: see above.
-        None => unsafe {
-            gettext_c_pgettext(
-                bytes,
-                size,
-                &r.head,
-                context.as_ptr(),
-                context.len(),
-                id.as_ptr(),
-                id.len(),
-            )
-        },
-        // SAFETY: see above.
-        Some(slots) => unsafe {
-            gettext_c_pgettext_indexed(
-                bytes,
-                size,
-                &r.head,
-                slots.as_ptr(),
-                slots.len(),
-                context.as_ptr(),
-                context.len(),
-                id.as_ptr(),
-                id.len(),
-            )
-        },
-    }
-}
-
-pub fn ngettext(file: &[u8], r: &Record, slots: Option<&[u32]>, id: &[u8], n: u64) -> Answer {
-    let (bytes, size) = (file.as_ptr(), file.len());
+    let (given, context) = flagged(context);
     match slots {
         // SAFETY: see above.
         None => unsafe {
@@ -453,6 +406,9 @@ pub fn ngettext(file: &[u8], r: &Record, slots: Option<&[u32]>, id: &[u8], n: u6
                 &r.codes,
                 &r.places,
                 &r.values,
+                given,
+                context.as_ptr(),
+                context.len(),
                 id.as_ptr(),
                 id.len(),
                 n,
@@ -469,51 +425,7 @@ pub fn ngettext(file: &[u8], r: &Record, slots: Option<&[u32]>, id: &[u8], n: u6
                 &r.codes,
                 &r.places,
                 &r.values,
-                id.as_ptr(),
-                id.len(),
-                n,
-            )
-        },
-    }
-}
-
-pub fn npgettext(
-    file: &[u8],
-    r: &Record,
-    slots: Option<&[u32]>,
-    context: &[u8],
-    id: &[u8],
-    n: u64,
-) -> Answer {
-    let (bytes, size) = (file.as_ptr(), file.len());
-    match slots {
-        // SAFETY: see above.
-        None => unsafe {
-            gettext_c_npgettext(
-                bytes,
-                size,
-                &r.head,
-                &r.codes,
-                &r.places,
-                &r.values,
-                context.as_ptr(),
-                context.len(),
-                id.as_ptr(),
-                id.len(),
-                n,
-            )
-        },
-        // SAFETY: see above.
-        Some(slots) => unsafe {
-            gettext_c_npgettext_indexed(
-                bytes,
-                size,
-                &r.head,
-                slots.as_ptr(),
-                slots.len(),
-                &r.codes,
-                &r.places,
-                &r.values,
+                given,
                 context.as_ptr(),
                 context.len(),
                 id.as_ptr(),
@@ -524,40 +436,25 @@ pub fn npgettext(
     }
 }
 
-/// Why a plural lookup answers as it does, by the scan.
+/// Why `ngettext` of the same answers as it does.
 pub fn why(file: &[u8], r: &Record, context: Option<&[u8]>, id: &[u8], n: u64) -> Explained {
-    let (bytes, size) = (file.as_ptr(), file.len());
-    match context {
-        // SAFETY: see above.
-        None => unsafe {
-            gettext_c_why_ngettext(
-                bytes,
-                size,
-                &r.head,
-                &r.codes,
-                &r.places,
-                &r.values,
-                id.as_ptr(),
-                id.len(),
-                n,
-            )
-        },
-        // SAFETY: see above.
-        Some(context) => unsafe {
-            gettext_c_why_npgettext(
-                bytes,
-                size,
-                &r.head,
-                &r.codes,
-                &r.places,
-                &r.values,
-                context.as_ptr(),
-                context.len(),
-                id.as_ptr(),
-                id.len(),
-                n,
-            )
-        },
+    let (given, context) = flagged(context);
+    // SAFETY: see above.
+    unsafe {
+        gettext_c_why_ngettext(
+            file.as_ptr(),
+            file.len(),
+            &r.head,
+            &r.codes,
+            &r.places,
+            &r.values,
+            given,
+            context.as_ptr(),
+            context.len(),
+            id.as_ptr(),
+            id.len(),
+            n,
+        )
     }
 }
 
