@@ -294,18 +294,18 @@ pub struct Explained {
 // A reason that leaves the caller's own text, with what it tells.
 fn left_own(
     kind: u32,
-    number: u32,
+    told: u32,
     own: u32,
     node: usize,
     entry: usize,
     stored: usize,
     form: u64,
 ) -> Explained
-    ensures { λ r. ⌜ r ≡ leftOwn kind number own node entry stored form ⌝ }
+    ensures { λ r. ⌜ r ≡ leftOwn kind told own node entry stored form ⌝ }
 {
     Explained {
         kind,
-        number,
+        number: told,
         which: own,
         node,
         entry,
@@ -320,24 +320,16 @@ fn left_own(
 pub fn explained_of(why: Why, own: u32) -> Explained
     ensures { λ r. ⌜ r ≡ explainedOf own why ⌝ }
 {
-    let number = lookup::number_of(lookup_why::reason_of(why));
+    let told = lookup::number_of(lookup_why::reason_of(why));
     match why {
-        Why::StaleLength => left_own(1, number, own, 0, 0, 0, 0),
-        Why::NoTree => left_own(2, number, own, 0, 0, 0, 0),
-        Why::ZeroDivisor(node) => left_own(3, number, own, node, 0, 0, 0),
-        Why::NoEntry => left_own(4, number, own, 0, 0, 0, 0),
-        Why::TooFewSegments(entry, stored, form) => left_own(
-            5,
-            number,
-            own,
-            0,
-            entry,
-            stored,
-            form,
-        ),
+        Why::StaleLength => left_own(1, told, own, 0, 0, 0, 0),
+        Why::NoTree => left_own(2, told, own, 0, 0, 0, 0),
+        Why::ZeroDivisor(node) => left_own(3, told, own, node, 0, 0, 0),
+        Why::NoEntry => left_own(4, told, own, 0, 0, 0, 0),
+        Why::TooFewSegments(entry, stored, form) => left_own(5, told, own, 0, entry, stored, form),
         Why::Answered(entry, form, start, len) => Explained {
             kind: 6,
-            number,
+            number: told,
             which: 0,
             node: 0,
             entry,
