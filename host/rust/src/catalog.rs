@@ -397,7 +397,7 @@ impl<B: Bytes, S: Search> Catalog<B, S> {
         self.why(Some(msg_context.as_bytes()), msg_id, msg_id_plural, n)
     }
 
-    // The answer is the lookup's own, so that `text` may take its segment: `why-ngettext` and `why-npgettext`, crates/gettext_c/proofs/Why.antt.
+    // The answer is the lookup's own, so that `text` may take its segment: `why-ngettext`, crates/gettext_c/proofs/Why.antt.
     fn why<'c, 't>(
         &'c self,
         context: Option<&[u8]>,

@@ -105,7 +105,7 @@ pub struct Explained {
 }
 
 impl Explained {
-    /// The lookup's answer, a function of the reason: proved, `why-ngettext` and `why-npgettext`, crates/gettext_c/proofs/Why.antt.
+    /// The lookup's answer, a function of the reason: proved, `why-ngettext`, crates/gettext_c/proofs/Why.antt.
     pub fn answer(&self) -> Answer {
         let answered = self.kind == 6;
         Answer {
