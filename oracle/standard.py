@@ -38,7 +38,7 @@ class Head(ctypes.Structure):
 
 
 class Loaded(ctypes.Structure):
-    _fields_ = [("number", c_uint32), ("head", Head)]
+    _fields_ = [("number", c_uint32), ("side", c_uint32), ("entered", c_uint32), ("entry", c_size_t), ("head", Head)]
 
 
 class Record:
