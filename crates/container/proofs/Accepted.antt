@@ -11,7 +11,7 @@ use borrow.Author.Tests.{eqb-true, eqb-false}
 use Rattle.text_utf8.specs.Utf8.{utf8}
 use Rattle.text.specs.Cut.{every}
 use Rattle.text.proofs.Tests.{by-test}
-use Rattle.refusal.specs.declared.Error.{Error}
+use Rattle.refusal.specs.declared.Refusal.{Refusal}
 use Rattle.refusal.specs.declared.Outcome.the-variants as outcome
 use Rattle.rules.specs.Tree.{Tree}
 use Rattle.rules.specs.Pool.{Pool}
@@ -40,7 +40,7 @@ loaded-accepted (refused x) h e = absurd (let p = h .outcome-is in let z : _≡_
 
 -- an entry that is not refused
 abbrev Passes : Read → Type 0
-Passes q = (x : Error) → q ≡ read.Refused x → ⊥
+Passes q = (x : Refusal) → q ≡ read.Refused x → ⊥
 
 -- stages that end well, each did
 record Through (q : Read) (f : Tree → Parse) (u : Tree) : Type 0 where

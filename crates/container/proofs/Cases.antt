@@ -1,21 +1,26 @@
 -- Files of document 01, "Files and rules to try", computed from the definition: the first three are those that it stars. Assumes nothing.
 use Prim.Native.Nat.{ℕ}
 use mathlib.Core.Path.{_≡_, refl}
-use mathlib.Core.Bool.{false}
+use mathlib.Core.Bool.{true, false}
 use mathlib.Core.List.{List, [], _∷_, _++_, map}
-use lib.ListN.{take, set, replicate}
+use mathlib.Core.Option.{Option, none, some}
+use lib.ListN.{length, take, set, replicate}
 use Rattle.text_utf8.specs.Utf8.{utf8, rest}
-use Rattle.text.specs.Bytes.{front, same, begins, first}
+use Rattle.text.specs.Bytes.{bytes, all, front, same, begins, first}
 use Rattle.text_trim.specs.Trim.{trim, trimStart, trimEnd, edgeAfter, lead, encode}
 use Rattle.text.specs.Cut.{cut, every}
 use Rattle.header_fields.specs.Fields.{named, lastOf}
 use Rattle.header.specs.Header.{charset, plural, metadata, utf8Label}
+use Rattle.reading_rule.specs.Plurals.{parsed, tested}
 use Rattle.reading_rule.specs.declared.Reading.the-variants.{Standard}
 use Rattle.container_layout.specs.Mo.{word, string, contextEnd, idStart, idEnd, context, id, entry, pieceAt, segment}
 use Rattle.container_layout.specs.declared.Tables.{Tables}
 use Rattle.container_layout.specs.declared.Stretch.the-variants as stretch
 use Rattle.container_layout.specs.declared.Entry.the-variants as entries
 use Rattle.refusal.specs.Numbers.{numberOf}
+use Rattle.refusal.specs.declared.Where.{Where}
+use Rattle.refusal.specs.declared.Where.the-variants.{File, Forced, Entry}
+use Rattle.refusal.specs.declared.Side.the-variants.{Original, Translation, Header, Rule}
 use Rattle.container_messages.specs.Messages.{originalOf, readAt}
 use Rattle.container_head.specs.Head.{orderOf, headOf}
 use Rattle.container.specs.Catalog.{header, entryStep, entriesFrom, Answer, accepted, refused, load}
@@ -31,10 +36,31 @@ fileF =
 abbrev pub fileG : List ℕ
 fileG = set fileF 36 3 ++ 0x63 ∷ 0 ∷ []
 
--- the number, 0 for a file that is accepted, and the count
-abbrev pub seen : Answer → ℕ × ℕ
-seen (accepted t r) = (0, t .count)
-seen (refused e) = (numberOf e, 0)
+-- a catalog whose one entry is the header h, of less than 256 bytes; and one of two entries, the second with an empty id
+abbrev withHeader : List ℕ → List ℕ
+withHeader h = set (set (take 44 fileF) 28 0) 36 (length h) ++ 0 ∷ 0 ∷ h ++ 0 ∷ []
+
+abbrev two : List ℕ
+two =
+    take 8 fileF ++ 2 ∷ 0 ∷ 0 ∷ 0 ∷ 28 ∷ 0 ∷ 0 ∷ 0 ∷ 44 ∷ 0 ∷ 0 ∷ 0 ∷ replicate 8 0
+    ++ 1 ∷ 0 ∷ 0 ∷ 0 ∷ 60 ∷ 0 ∷ 0 ∷ 0 ∷ 0 ∷ 0 ∷ 0 ∷ 0 ∷ 61 ∷ 0 ∷ 0 ∷ 0
+    ∷ 1 ∷ 0 ∷ 0 ∷ 0 ∷ 62 ∷ 0 ∷ 0 ∷ 0 ∷ 1 ∷ 0 ∷ 0 ∷ 0 ∷ 62 ∷ 0 ∷ 0 ∷ 0 ∷ 0x61 ∷ 0 ∷ 0x62 ∷ 0 ∷ []
+
+-- the number, 0 for a file that is accepted, the count, and where a refused load failed
+pub record Seen : Type 0 where
+  pub number : ℕ
+  pub count : ℕ
+  pub place : Option Where
+
+abbrev loads : ℕ → Seen
+loads k = record { number = 0; count = k; place = none }
+
+abbrev fails : ℕ → Where → Seen
+fails n w = record { number = n; count = 0; place = some w }
+
+abbrev pub seen : Answer → Seen
+seen (accepted t r) = loads (t .count)
+seen (refused r) = fails (numberOf (r .error)) (r .place)
 
 -- no rule is forced, nor UTF-8
 abbrev pub plain : Options
@@ -42,46 +68,50 @@ plain = record { forced = false; reading = Standard; utf8 = false }
 
 pub record Row : Type 0 where
   pub file : List ℕ
-  pub number : ℕ
-  pub count : ℕ
+  pub gives : Seen
 
-abbrev row : List ℕ → ℕ → ℕ → Row
-row s n k = record { file = s; number = n; count = k }
+abbrev row : List ℕ → Seen → Row
+row s r = record { file = s; gives = r }
 
 abbrev pub rows : List Row
 rows =
-    row fileF 0 1
-    ∷ row (take 47 fileF) 1 0
-    ∷ row (take 27 fileF) 1 0
+    row fileF (loads 1)
+    ∷ row (take 47 fileF) (fails 1 (Entry 0 Translation))
+    ∷ row (take 27 fileF) (fails 1 File)
     -- the byte after a translation is not looked at; the one after an original ends the id
-    ∷ row (set fileF 47 0x7a) 0 1
-    ∷ row (set fileF 45 0x62) 1 0
+    ∷ row (set fileF 47 0x7a) (loads 1)
+    ∷ row (set fileF 45 0x62) (fails 1 (Entry 0 Original))
     -- the context is empty and so is the id: the translation is the header, a line without a colon
-    ∷ row (set fileF 44 4) 4 0
-    ∷ row (set fileF 8 2) 1 0
-    ∷ row (set fileF 11 255) 1 0
-    ∷ row (set fileF 0 0) 2 0
-    ∷ row (set fileF 44 255) 3 0
-    ∷ row (set fileF 46 255) 3 0
-    ∷ row fileG 0 1
+    ∷ row (set fileF 44 4) (fails 4 (Entry 0 Header))
+    ∷ row (set fileF 8 2) (fails 1 (Entry 1 Translation))
+    ∷ row (set fileF 11 255) (fails 1 (Entry 1 Translation))
+    ∷ row (set fileF 0 0) (fails 2 File)
+    ∷ row (set fileF 44 255) (fails 3 (Entry 0 Original))
+    ∷ row (set fileF 46 255) (fails 3 (Entry 0 Translation))
+    ∷ row fileG (loads 1)
     -- no entry, and the tables at the end, and past it
-    ∷ row (take 28 (set (set (set fileF 8 0) 12 28) 16 28)) 0 0
+    ∷ row (take 28 (set (set (set fileF 8 0) 12 28) 16 28)) (loads 0)
     -- the magic in the other byte order
-    ∷ row (0x95 ∷ 0x04 ∷ 0x12 ∷ 0xde ∷ replicate 24 0) 0 0
-    ∷ row (take 28 (set (set (set fileF 8 0) 12 29) 16 28)) 1 0
-    ∷ row (take 28 (set (set (set fileF 8 0) 12 28) 16 29)) 1 0
+    ∷ row (0x95 ∷ 0x04 ∷ 0x12 ∷ 0xde ∷ replicate 24 0) (loads 0)
+    ∷ row (take 28 (set (set (set fileF 8 0) 12 29) 16 28)) (fails 1 File)
+    ∷ row (take 28 (set (set (set fileF 8 0) 12 28) 16 29)) (fails 1 File)
+    -- an empty id at another index; the header's translation, which is not UTF-8, its lines, its label and its rule
+    ∷ row two (fails 5 (Entry 1 Original))
+    ∷ row (withHeader (0xFF ∷ [])) (fails 3 (Entry 0 Translation))
+    ∷ row (withHeader (bytes "x")) (fails 4 (Entry 0 Header))
+    ∷ row (withHeader (bytes "Content-Type:charset=x")) (fails 7 (Entry 0 Header))
+    ∷ row (withHeader (bytes "Plural-Forms:plural=" ++ 0xC3 ∷ 0xA9 ∷ [])) (fails 6 (Entry 0 Rule))
     ∷ []
 
-abbrev pub said : Row → ℕ × ℕ
-said r = (r .number, r .count)
-
-abbrev pub computed : Row → ℕ × ℕ
-computed r = seen (load plain [] (r .file))
-
-pub rows-hold : map computed rows ≡ map said rows
+pub rows-hold : map (λ r. seen (load plain [] (r .file))) rows ≡ map (λ r. r .gives) rows
 unfolding load entriesFrom entryStep header ruleAt readAt originalOf headOf orderOf word string contextEnd idStart idEnd context id utf8 rest front trim trimStart trimEnd edgeAfter lead encode
-    same begins first cut every named lastOf charset plural metadata utf8Label
+    same begins first cut every named lastOf charset plural metadata utf8Label parsed tested all
 rows-hold = refl
+
+-- a forced rule names its side only, and comes before the file
+pub forced-fails : seen (load (record { forced = true; reading = Standard; utf8 = false }) (0x80 ∷ []) []) ≡ fails 6 Forced
+unfolding load parsed tested all trim trimStart trimEnd edgeAfter lead encode begins
+forced-fails = refl
 
 -- where entry 0 lies in F and in G, and its segments
 abbrev tablesF : ℕ → Tables

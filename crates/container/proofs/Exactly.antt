@@ -8,7 +8,9 @@ use mathlib.Core.List.{List, [], _∷_}
 use native.Mathlib.Omega.{arith}
 use lib.ListN.{length, take, drop}
 use Rattle.text.proofs.Tests.{taken, left, by-test}
-use Rattle.refusal.specs.declared.Error.{Error}
+use Rattle.refusal.specs.Places.{at, inHeader, inRule}
+use Rattle.refusal.specs.declared.Refusal.{Refusal}
+use Rattle.refusal.specs.declared.Where.the-variants.{Forced}
 use Rattle.refusal.specs.declared.Error.the-variants.{MalformedMetadata, UnknownEncoding}
 use Rattle.refusal.specs.declared.Outcome.{Outcome}
 use Rattle.refusal.specs.declared.Outcome.the-variants as outcome
@@ -41,7 +43,7 @@ use Rattle.container.specs.declared.Options.{Options}
 use Rattle.container.proofs.Accepted.{Whole, accepted-whole, every-passed}
 use Rattle.container.proofs.Stages.{stepOf, rest-steps}
 
-never : {e : Error} {r : Tree} → norule e ≡ rule r → ⊥
+never : {e : Refusal} {r : Tree} → norule e ≡ rule r → ⊥
 never e = let z : _≡_ {A = ℕ} 0 1 = cc in omega arith
 
 same-rule : {u r : Tree} → rule u ≡ rule r → u ≡ r
@@ -62,7 +64,7 @@ record HandsOn (o : Options) (h : List ℕ) (r u : Tree) : Type 0 where
   lies : Place
   fine : Fine o h lies
   if-forced : o .forced ≡ true → u ≡ r
-  if-given : (a l : ℕ) → o .forced ≡ false → lies ≡ place.At a l → parsed (o .reading) (take l (drop a h)) ≡ rule u
+  if-given : (a l : ℕ) → o .forced ≡ false → lies ≡ place.At a l → parsed inRule (o .reading) (take l (drop a h)) ≡ rule u
   if-absent : o .forced ≡ false → lies ≡ place.Absent → u ≡ r
 
 module _ (o : Options) (h : List ℕ) (r u : Tree) where
@@ -71,7 +73,7 @@ module _ (o : Options) (h : List ℕ) (r u : Tree) where
   by-fields (Fields label p) e g =
       by-test (HandsOn o h r u) (o .utf8 || labelOk h label)
       (λ k. let w : ruleIn (o .reading) h r (first.Rule (elim (o .forced) [ true ↦ place.Absent | false ↦ p ])) ≡ rule u =
-      sym (ap (ruleIn (o .reading) h r) (taken (first.Rule (elim (o .forced) [ true ↦ place.Absent | false ↦ p ])) (first.Refused UnknownEncoding) k)) ∙ g in
+      sym (ap (ruleIn (o .reading) h r) (taken (first.Rule (elim (o .forced) [ true ↦ place.Absent | false ↦ p ])) (first.Refused (at inHeader UnknownEncoding)) k)) ∙ g in
       record {
         lies = p;
         fine = record { label = label; fields = e; known = k };
@@ -79,7 +81,7 @@ module _ (o : Options) (h : List ℕ) (r u : Tree) where
         if-given = λ a l t q. sym (ap (λ (x : Place). ruleIn (o .reading) h r (first.Rule x)) (left place.Absent p t ∙ q)) ∙ w;
         if-absent = λ t q. same-rule (sym (sym (ap (λ (x : Place). ruleIn (o .reading) h r (first.Rule x)) (left place.Absent p t ∙ q)) ∙ w));
       })
-      (λ k. absurd (never (sym (ap (ruleIn (o .reading) h r) (left (first.Rule (elim (o .forced) [ true ↦ place.Absent | false ↦ p ])) (first.Refused UnknownEncoding) k)) ∙ g)))
+      (λ k. absurd (never (sym (ap (ruleIn (o .reading) h r) (left (first.Rule (elim (o .forced) [ true ↦ place.Absent | false ↦ p ])) (first.Refused (at inHeader UnknownEncoding)) k)) ∙ g)))
 
   hands-on : header o h r ≡ rule u → HandsOn o h r u
   unfolding header ruleAt
@@ -91,7 +93,7 @@ module _ (o : Options) (h : List ℕ) (r : Tree) {p : Place} (w : Fine o h p) wh
   unfolding header ruleAt
   at-rule =
       ap (λ (m : Metadata). ruleIn (o .reading) h r (headed (o .forced) (o .utf8) h m)) (w .fields)
-      ∙ ap (ruleIn (o .reading) h r) (taken (first.Rule (elim (o .forced) [ true ↦ place.Absent | false ↦ p ])) (first.Refused UnknownEncoding) (w .known))
+      ∙ ap (ruleIn (o .reading) h r) (taken (first.Rule (elim (o .forced) [ true ↦ place.Absent | false ↦ p ])) (first.Refused (at inHeader UnknownEncoding)) (w .known))
 
   forced-on : o .forced ≡ true → header o h r ≡ rule r
   forced-on t = at-rule ∙ ap (λ (q : Place). ruleIn (o .reading) h r (first.Rule q)) (taken place.Absent p t)
@@ -144,10 +146,10 @@ module _ (o : Options) (f s : List ℕ) (t : Tables) (r : Tree) where
     good i l = read-good s t i (every-passed o f s e i l)
 
     not-forced : o .forced ≡ false → whole .before ≡ defaultTree
-    not-forced q = same-rule (sym (whole .forced-is) ∙ left (parsed (o .reading) f) (rule defaultTree) q)
+    not-forced q = same-rule (sym (whole .forced-is) ∙ left (parsed Forced (o .reading) f) (rule defaultTree) q)
 
-    is-forced : o .forced ≡ true → parsed (o .reading) f ≡ rule (whole .before)
-    is-forced q = sym (taken (parsed (o .reading) f) (rule defaultTree) q) ∙ whole .forced-is
+    is-forced : o .forced ≡ true → parsed Forced (o .reading) f ≡ rule (whole .before)
+    is-forced q = sym (taken (parsed Forced (o .reading) f) (rule defaultTree) q) ∙ whole .forced-is
 
     -- entry 0 hands on the rule that is accepted
     zeroth-from : (k : ℕ) → t .count ≡ suc k → entriesFrom o s t (suc k) 0 (whole .before) ≡ rule r → entryStep o s (whole .before) (readAt s t 0) ≡ rule r
@@ -253,12 +255,12 @@ module _ (o : Options) (f s : List ℕ) (t : Tables) (r : Tree) where
     not-header q l n = n (same-id s t (w .entries 0 l) (q .good) ∙ q .empty)
 
     unforced : o .forced ≡ false → forcedRule (o .forced) (o .reading) f ≡ rule defaultTree
-    unforced q = left (parsed (o .reading) f) (rule defaultTree) q
+    unforced q = left (parsed Forced (o .reading) f) (rule defaultTree) q
 
     begins : Counts o f s t r → Begins
     begins (forced q p) = record {
       from = r;
-      forced-is = taken (parsed (o .reading) f) (rule defaultTree) q ∙ p;
+      forced-is = taken (parsed Forced (o .reading) f) (rule defaultTree) q ∙ p;
       if-none = λ c. refl;
       if-some = by-first (λ h x. forced-on o h r (w .header h x .fine) q) (λ l n. refl);
     }
@@ -301,14 +303,14 @@ module _ (o : Options) (f s : List ℕ) (t : Tables) (r : Tree) where
   accepted-exactly = (accepted-facts, facts-accepted)
 
 -- The refusals. The first of k entries from i on that does not hand on its rule: those before it do.
-record Stops (o : Options) (s : List ℕ) (t : Tables) (k i : ℕ) (r : Tree) (e : Error) : Type 0 where
+record Stops (o : Options) (s : List ℕ) (t : Tables) (k i : ℕ) (r : Tree) (e : Refusal) : Type 0 where
   passed : ℕ
   below : passed < k
   rule-so-far : Tree
   before : entriesFrom o s t passed i r ≡ rule rule-so-far
   here : entryStep o s rule-so-far (readAt s t (i + passed)) ≡ norule e
 
-module _ (o : Options) (s : List ℕ) (t : Tables) (e : Error) where
+module _ (o : Options) (s : List ℕ) (t : Tables) (e : Refusal) where
   stops-by : (k i : ℕ) (r : Tree) → ((u : Tree) → entriesFrom o s t k (suc i) u ≡ norule e → Stops o s t k (suc i) u e) → (a : Parse) → entryStep o s r (readAt s t i) ≡ a
       → andThen a (entriesFrom o s t k (suc i)) ≡ norule e → Stops o s t (suc k) i r e
   unfolding entriesFrom
@@ -347,11 +349,11 @@ module _ (o : Options) (s : List ℕ) (t : Tables) (e : Error) where
       ∙ ap (λ (a : Parse). andThen a (entriesFrom o s t (j + suc m) (suc i))) (w .is)
       ∙ stopped j m (suc i) (w .from) u (w .rest) (ap (λ (k : ℕ). entryStep o s u (readAt s t k)) z ∙ q)
 
-module _ (o : Options) (f s : List ℕ) (e : Error) where
+module _ (o : Options) (f s : List ℕ) (e : Refusal) where
   never-accepted : {t : Tables} {r : Tree} → accepted t r ≡ refused e → ⊥
   never-accepted p = let z : _≡_ {A = ℕ} 0 1 = cc in omega arith
 
-  same-refusal : {x : Error} → refused x ≡ refused e → x ≡ e
+  same-refusal : {x : Refusal} → refused x ≡ refused e → x ≡ e
   same-refusal p = cc
 
   by-entries : {w : Tree} → forcedRule (o .forced) (o .reading) f ≡ rule w → {t : Tables} → headOf s ≡ head.Fields t → (a : Parse) → entriesFrom o s t (t .count) 0 w ≡ a
@@ -364,7 +366,7 @@ module _ (o : Options) (f s : List ℕ) (e : Error) where
 
   by-heads : {w : Tree} → forcedRule (o .forced) (o .reading) f ≡ rule w → (h : Head) → headOf s ≡ h → catalog o s w h ≡ refused e → Fails o f s e
   by-heads {w} p (head.Fields t) h q = by-entries p h (entriesFrom o s t (t .count) 0 w) refl q
-  by-heads p (head.Refused x) h q = by-head p (h ∙ ap head.Refused (same-refusal q))
+  by-heads p (head.Refused x) h q = by-head p h (sym (same-refusal q))
 
   by-rules : (a : Parse) → forcedRule (o .forced) (o .reading) f ≡ a → loadWith o s a ≡ refused e → Fails o f s e
   by-rules (rule w) p q = by-heads p (headOf s) refl q
@@ -377,7 +379,7 @@ module _ (o : Options) (f s : List ℕ) (e : Error) where
   fails-refused : Fails o f s e → load o f s ≡ refused e
   unfolding load
   fails-refused (by-forced p) = ap (loadWith o s) p
-  fails-refused (by-head {w} p h) = ap (loadWith o s) p ∙ ap (catalog o s w) h
+  fails-refused (by-head {w} p h q) = ap (loadWith o s) p ∙ ap (catalog o s w) h ∙ ap refused (sym q)
   fails-refused (by-entry {w} {u} {t} {i} p h l x y) =
       let z : t .count ≡ i + suc (t .count - suc i) = omega arith in
       let k : 0 + i ≡ i = omega arith in

@@ -7,6 +7,8 @@ use native.Mathlib.Omega.{arith}
 use lib.ListN.{take, drop}
 use Rattle.rules.specs.Tree.{Tree, defaultTree}
 use Rattle.rules.specs.Store.{size}
+use Rattle.refusal.specs.Places.{inRule}
+use Rattle.refusal.specs.declared.Where.the-variants.{Forced}
 use Rattle.reading_rule.specs.Plurals as plurals
 use Rattle.reading_rule.specs.Plurals.{Parse, rule, norule}
 use Rattle.reading_rule.specs.declared.Reading.{Reading}
@@ -37,11 +39,11 @@ abbrev FewIn : Parse → Type 0
 FewIn p = Few (plurals.treeIn p)
 
 few-forced : (forced : Bool) (reading : Reading) (f : List ℕ) → FewIn (forcedRule forced reading f)
-few-forced true reading f = at-most-512-nodes reading f
+few-forced true reading f = at-most-512-nodes Forced reading f
 few-forced false reading f = few-default
 
 few-rule : (reading : Reading) (s : List ℕ) (r : Tree) → Few r → (p : First) → FewIn (ruleIn reading s r p)
-few-rule reading s r h (first.Rule (At a l)) = at-most-512-nodes reading (take l (drop a s))
+few-rule reading s r h (first.Rule (At a l)) = at-most-512-nodes inRule reading (take l (drop a s))
 few-rule reading s r h (first.Rule Absent) = h
 few-rule reading s r h (first.Refused e) = few-default
 

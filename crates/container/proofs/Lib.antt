@@ -3,5 +3,6 @@ pub mod Stages
 pub mod Accepted
 pub mod Exactly
 pub mod Few
+pub mod Before
 mod Cases
 pub mod Unique

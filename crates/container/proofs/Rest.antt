@@ -6,7 +6,7 @@ use mathlib.Core.List.{List}
 use native.Mathlib.Omega.{arith}
 use native.Mathlib.Numerals.{add-one}
 use Rattle.container_messages.specs.Messages.{readAt}
-use Rattle.refusal.specs.declared.Error.{Error}
+use Rattle.refusal.specs.declared.Refusal.{Refusal}
 use Rattle.container_messages.specs.declared.Read.{Read}
 use Rattle.container.specs.Private.{readOutcome, goOn, restFrom}
 use Rattle.refusal.specs.declared.Outcome.{Outcome}
@@ -31,7 +31,7 @@ module _ (s : List ℕ) (t : Tables) where
       so : restFrom s t (t .count - 1) 1 ≡ goOn p (restFrom s t (t .count - (i + 1)) (i + 1))
       so = m ∙ turn i h ∙ rw (f, e)
 
-      pub left-stop : {x : Error} → p ≡ outcome.Refused x → p ≡ restFrom s t (t .count - 1) 1
+      pub left-stop : {x : Refusal} → p ≡ outcome.Refused x → p ≡ restFrom s t (t .count - 1) 1
       left-stop g = g ∙ sym (so ∙ rw g)
 
       pub left-more : p ≡ outcome.Loaded → Left (i + 1)

@@ -4,7 +4,10 @@ use mathlib.Core.Path.{_≡_, refl, sym, ap, _∙_}
 use mathlib.Core.List.{List}
 use native.Mathlib.Omega.{arith}
 use lib.ListN.{length}
+use Rattle.refusal.specs.Places.{at, inRule}
 use Rattle.refusal.specs.declared.Error.{Error}
+use Rattle.refusal.specs.declared.Refusal.{Refusal}
+use Rattle.refusal.specs.declared.Where.the-variants.{File}
 use Rattle.refusal.specs.declared.Outcome.{Outcome}
 use Rattle.refusal.specs.declared.Outcome.the-variants as outcome
 use Rattle.rules.specs.Tree.{Tree}
@@ -38,7 +41,7 @@ use Rattle.container.specs.declared.Options.{Options}
 use Rattle.container.specs.declared.Loading.{Loading}
 
 -- a refusal, as an answer
-pub refusing : (a : Answer) {x : Error} {b : Outcome} {Q : Pool} {r : Loading} → a ≡ refused x → b ≡ outcome.Refused x → Empties b Q r → Loads a Q r
+pub refusing : (a : Answer) {x : Refusal} {b : Outcome} {Q : Pool} {r : Loading} → a ≡ refused x → b ≡ outcome.Refused x → Empties b Q r → Loads a Q r
 refusing a e f g = rw e (record { outcome-is = g .outcome-is ∙ f; tables-are = g .tables-are; nodes-are = g .nodes-are; rule-is = g .rule-is })
 
 -- a stage that handed on its rule, and one that did not
@@ -46,11 +49,11 @@ went-on : (a : Parse) → plurals.outcomeOf a ≡ outcome.Loaded → a ≡ rule 
 went-on (rule t) e = refl
 went-on (norule x) e = absurd (let z : _≡_ {A = ℕ} 0 1 = cc in omega arith)
 
-stopped : (a : Parse) {x : Error} → plurals.outcomeOf a ≡ outcome.Refused x → a ≡ norule x
+stopped : (a : Parse) {x : Refusal} → plurals.outcomeOf a ≡ outcome.Refused x → a ≡ norule x
 stopped (rule t) e = absurd (let z : _≡_ {A = ℕ} 0 1 = cc in omega arith)
 stopped (norule y) {x} e = let q : y ≡ x = cc in rw q
 
-headless : (h : Head) {x : Error} → h ≡ head.Refused x → headOutcome h ≡ outcome.Refused x
+headless : (h : Head) {x : Error} → h ≡ head.Refused x → headOutcome h ≡ outcome.Refused (at File x)
 headless h e = rw e
 
 -- how the rest stands, as a stage
@@ -62,7 +65,7 @@ stepOf (outcome.Refused x) t = norule x
 module _ (o : Options) (s : List ℕ) (start len : ℕ) (i : start + len ≤ length s) where
   same-rule : (r : Tree) (f : First) → endOfRule f ≤ length (segment0 (segments s start len))
       → ruleIn (o .reading) s r (shifted start f) ≡ ruleIn (o .reading) (segment0 (segments s start len)) r f
-  same-rule r (first.Rule (place.At a l)) h = ap (parsed (o .reading)) (same-part s start len i a l h)
+  same-rule r (first.Rule (place.At a l)) h = ap (parsed inRule (o .reading)) (same-part s start len i a l h)
   same-rule r (first.Rule place.Absent) h = refl
   same-rule r (first.Refused e) h = refl
 
@@ -112,7 +115,7 @@ module _ (o : Options) (s : List ℕ) (t : Tables) where
 
 -- the load, stage by stage: P are the arrays after the forced rule
 module _ (o : Options) (f s : List ℕ) {forced : Parsed} {P : Pool} (g : Parses (forcedRule (o .forced) (o .reading) f) P forced) where
-  pub forced-refused : {e : Error} {Q : Pool} {r : Loading} → forced .outcome ≡ outcome.Refused e → Empties (forced .outcome) Q r → Loads (load o f s) Q r
+  pub forced-refused : {e : Refusal} {Q : Pool} {r : Loading} → forced .outcome ≡ outcome.Refused e → Empties (forced .outcome) Q r → Loads (load o f s) Q r
   unfolding load
   forced-refused {e} q w =
       refusing (load o f s) (ap (loadWith o s) (stopped (forcedRule (o .forced) (o .reading) f) (sym (g .outcome) ∙ q))) q w
@@ -147,7 +150,7 @@ module _ (o : Options) (f s : List ℕ) {forced : Parsed} {P : Pool} (g : Parses
         gives : Parses stage Q ruled
         gives = choosing (o .reading) s before (g .stored) (g .nodes) first c
 
-        pub rule-stopped : {e : Error} {R : Pool} {r : Loading} → ruled .outcome ≡ outcome.Refused e → Empties (ruled .outcome) R r → Loads (load o f s) R r
+        pub rule-stopped : {e : Refusal} {R : Pool} {r : Loading} → ruled .outcome ≡ outcome.Refused e → Empties (ruled .outcome) R r → Loads (load o f s) R r
         rule-stopped {e} i j =
             refusing (load o f s)
             (at-entries ∙ ap (λ (a : Parse). answered t (andThen a (stepOf (restFrom s t (t .count - 1) 1)))) (stopped stage (sym (gives .outcome) ∙ i)))
@@ -160,7 +163,7 @@ module _ (o : Options) (f s : List ℕ) {forced : Parsed} {P : Pool} (g : Parses
               at-entries ∙ ap (λ (a : Parse). answered t (andThen a (stepOf (restFrom s t (t .count - 1) 1)))) (went-on stage (sym (gives .outcome) ∙ i))
               ∙ ap (λ (a : Outcome). answered t (stepOf a (plurals.treeIn stage))) (sym j)
 
-          pub rest-refused : {e : Error} {R : Pool} {r : Loading} → rest ≡ outcome.Refused e → Empties rest R r → Loads (load o f s) R r
+          pub rest-refused : {e : Refusal} {R : Pool} {r : Loading} → rest ≡ outcome.Refused e → Empties rest R r → Loads (load o f s) R r
           rest-refused v z = refusing (load o f s) (at-rest ∙ ap (λ (a : Outcome). answered t (stepOf a (plurals.treeIn stage))) v) v z
 
           pub is-loaded : rest ≡ outcome.Loaded → Loads (load o f s) Q (record { outcome = outcome.Loaded; tables = t; nodes = ruled .nodes })

@@ -5,7 +5,10 @@ use mathlib.Core.Path.{_≡_}
 use mathlib.Core.Bool.{true, false, _||_}
 use mathlib.Core.List.{List, []}
 use lib.ListN.{length, take, drop}
+use Rattle.refusal.specs.Places.{at, inRule}
 use Rattle.refusal.specs.declared.Error.{Error}
+use Rattle.refusal.specs.declared.Refusal.{Refusal}
+use Rattle.refusal.specs.declared.Where.the-variants as place-of
 use Rattle.rules.specs.Tree.{Tree, defaultTree}
 use Rattle.reading_rule.specs.Plurals.{rule, norule, parsed}
 use Rattle.header_fields.specs.declared.Place.{Place}
@@ -46,8 +49,8 @@ pub record Fine (o : Options) (h : List ℕ) (p : Place) : Type 0 where
 
 -- 1 and 6. which rule counts: the forced one, else the header's, else the default
 pub data Counts (o : Options) (f s : List ℕ) (t : Tables) (r : Tree) : Type 0 where
-  forced : o .forced ≡ true → parsed (o .reading) f ≡ rule r → Counts o f s t r
-  given : o .forced ≡ false → {h : List ℕ} {at len : ℕ} → IsHeader s t h → Fine o h (place.At at len) → parsed (o .reading) (take len (drop at h)) ≡ rule r → Counts o f s t r
+  forced : o .forced ≡ true → parsed place-of.Forced (o .reading) f ≡ rule r → Counts o f s t r
+  given : o .forced ≡ false → {h : List ℕ} {start len : ℕ} → IsHeader s t h → Fine o h (place.At start len) → parsed inRule (o .reading) (take len (drop start h)) ≡ rule r → Counts o f s t r
   absent : o .forced ≡ false → {h : List ℕ} → IsHeader s t h → Fine o h place.Absent → r ≡ defaultTree → Counts o f s t r
   headless : o .forced ≡ false → ((h : List ℕ) → IsHeader s t h → ⊥) → r ≡ defaultTree → Counts o f s t r
 
@@ -62,9 +65,9 @@ pub record Accepts (o : Options) (f s : List ℕ) (t : Tables) (r : Tree) : Type
   pub counts : Counts o f s t r
 
 -- What a load is refused for: the forced rule, else the head, else the lowest entry of which a test fails, after all below it passed; of its
--- tests the first that fails (`refused-exactly`).
-pub data Fails (o : Options) (f s : List ℕ) (e : Error) : Type 0 where
+-- tests the first that fails, with the place of that test (`refused-exactly`).
+pub data Fails (o : Options) (f s : List ℕ) (e : Refusal) : Type 0 where
   by-forced : forcedRule (o .forced) (o .reading) f ≡ norule e → Fails o f s e
-  by-head : {w : Tree} → forcedRule (o .forced) (o .reading) f ≡ rule w → headOf s ≡ head.Refused e → Fails o f s e
+  by-head : {w : Tree} {x : Error} → forcedRule (o .forced) (o .reading) f ≡ rule w → headOf s ≡ head.Refused x → e ≡ at place-of.File x → Fails o f s e
   by-entry : {w u : Tree} {t : Tables} {i : ℕ} → forcedRule (o .forced) (o .reading) f ≡ rule w → headOf s ≡ head.Fields t → i < t .count
       → entriesFrom o s t i 0 w ≡ rule u → entryStep o s u (readAt s t i) ≡ norule e → Fails o f s e

@@ -3,7 +3,9 @@
 use Prim.Native.Nat.{ℕ, zero, suc}
 use mathlib.Core.Bool.{false}
 use mathlib.Core.List.{List}
-use Rattle.refusal.specs.declared.Error.{Error}
+use Rattle.refusal.specs.Places.{at}
+use Rattle.refusal.specs.declared.Refusal.{Refusal}
+use Rattle.refusal.specs.declared.Where.the-variants.{File}
 use Rattle.rules.specs.Tree.{Tree, defaultTree}
 use Rattle.reading_rule.specs.Plurals.{Parse, rule, norule}
 use Rattle.container_layout.specs.Mo.{segments}
@@ -42,7 +44,7 @@ entriesFrom o s t (suc k) i r = andThen (entryStep o s r (readAt s t i)) (entrie
 -- what a load answers: the tables and the rule
 pub data Answer : Type 0 where
   accepted : Tables → Tree → Answer
-  refused : Error → Answer
+  refused : Refusal → Answer
 
 abbrev pub answered : Tables → Parse → Answer
 answered t (rule r) = accepted t r
@@ -50,7 +52,7 @@ answered t (norule e) = refused e
 
 abbrev pub catalog : Options → List ℕ → Tree → Head → Answer
 catalog o s r (head.Fields t) = answered t (entriesFrom o s t (t .count) 0 r)
-catalog o s r (head.Refused e) = refused e
+catalog o s r (head.Refused e) = refused (at File e)
 
 abbrev pub loadWith : Options → List ℕ → Parse → Answer
 loadWith o s (rule r) = catalog o s r (headOf s)

@@ -1,6 +1,8 @@
 -- What the functions behind the public ones promise.
 use Prim.Native.Nat.{ℕ, zero, suc}
 use mathlib.Core.List.{List}
+use Rattle.refusal.specs.Places.{at}
+use Rattle.refusal.specs.declared.Where.the-variants.{File}
 use Rattle.refusal.specs.declared.Outcome.{Outcome}
 use Rattle.refusal.specs.declared.Outcome.the-variants.{Loaded, Refused}
 use Rattle.container_layout.specs.declared.Tables.{Tables}
@@ -13,7 +15,7 @@ use Rattle.container_head.specs.declared.Head.the-variants as head
 -- how the load stands after the head, and after an entry
 abbrev pub headOutcome : Head → Outcome
 headOutcome (head.Fields t) = Loaded
-headOutcome (head.Refused e) = Refused e
+headOutcome (head.Refused e) = Refused (at File e)
 
 abbrev pub readOutcome : Read → Outcome
 readOutcome (read.Refused e) = Refused e

@@ -5,6 +5,7 @@ use container_layout::Tables;
 use container_messages::Read;
 use reading_rule::Reading;
 use refusal::Outcome;
+use refusal::Where;
 ghost use mathlib.Core.Path.{_≡_};
 ghost use Prim.Native.Nat.{_-_, _<_};
 ghost use Rattle.rules.specs.Pool.{pool};
@@ -121,7 +122,7 @@ fn head_outcome(head: Head) -> Outcome
 {
     match head {
         Head::Fields(t) => Outcome::Loaded,
-        Head::Refused(e) => Outcome::Refused(e),
+        Head::Refused(e) => Outcome::Refused(refusal::at(Where::File, e)),
     }
 }
 

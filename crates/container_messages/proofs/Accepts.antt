@@ -9,6 +9,7 @@ use borrow.Author.Tests.{eqb-true, eq-eqb}
 use Rattle.text.specs.Cut.{every}
 use Rattle.text.proofs.Tests.{taken, left, by-test}
 use Rattle.text_utf8.specs.Utf8.{utf8}
+use Rattle.refusal.specs.declared.Refusal.{Refusal}
 use Rattle.refusal.specs.declared.Error.{Error}
 use Rattle.refusal.specs.declared.Error.the-variants.{Eof, DecodingError, MisplacedMetadata}
 use Rattle.container_layout.specs.Mo.{string, original, context, id, ended, segments}
@@ -57,16 +58,16 @@ kept-named i (b ∷ l) n e = absurd (let z : _≡_ {A = ℕ} 0 1 = cc in omega a
 at-zero : (i : ℕ) → i ≡ 0 → identified i [] ≡ original.Empty
 at-zero i e = taken original.Empty (original.Refused MisplacedMetadata) (eq-eqb i 0 e)
 
-kept-translation : (s : List ℕ) (v : Stretch) (o : Original) → ((x : Error) → joined o (translationIn s v) ≡ read.Refused x → ⊥) → (x : Error) → translationIn s v ≡ translation.Refused x → ⊥
-kept-translation s v o n x e = by-original o n
+kept-translation : (i : ℕ) (s : List ℕ) (v : Stretch) (o : Original) → ((x : Refusal) → joined i o (translationIn s v) ≡ read.Refused x → ⊥) → (x : Error) → translationIn s v ≡ translation.Refused x → ⊥
+kept-translation i s v o n x e = by-original o n
   where
-    by-original : (o : Original) → ((y : Error) → joined o (translationIn s v) ≡ read.Refused y → ⊥) → ⊥
-    by-original (original.Refused y) m = m y refl
-    by-original original.Named m = m x (ap (joined original.Named) e)
-    by-original original.Empty m = m x (ap (joined original.Empty) e)
+    by-original : (o : Original) → ((y : Refusal) → joined i o (translationIn s v) ≡ read.Refused y → ⊥) → ⊥
+    by-original (original.Refused y) m = m _ refl
+    by-original original.Named m = m _ (ap (joined i original.Named) e)
+    by-original original.Empty m = m _ (ap (joined i original.Empty) e)
 
-kept-original : (o : Original) (t : Translation) → ((x : Error) → joined o t ≡ read.Refused x → ⊥) → Kept o
-kept-original o t n x e = n x (ap (λ (q : Original). joined q t) e)
+kept-original : (i : ℕ) (o : Original) (t : Translation) → ((x : Refusal) → joined i o t ≡ read.Refused x → ⊥) → Kept o
+kept-original i o t n x e = n _ (ap (λ (q : Original). joined i q t) e)
 
 is-ladder : (i : ℕ) (o : List ℕ) → originalOf i o ≡ ladder (utf8 (context o)) (ended o) (utf8 (id o)) (identified i (id o))
 unfolding originalOf ladder
@@ -82,12 +83,12 @@ as-ladder i o h x e = h x (is-ladder i o ∙ e)
 module _ (s : List ℕ) (t : Tables) (i : ℕ) where
   -- the facts, from an entry that is not refused
   by-strings : (u v : Stretch) → string (t .big) s (t .originals) i ≡ u → string (t .big) s (t .translations) i ≡ v
-      → ((x : Error) → joined (originalIn s i u) (translationIn s v) ≡ read.Refused x → ⊥) → Good s t i
-  by-strings stretch.Outside v e f n = absurd (n Eof refl)
-  by-strings (stretch.At a l) stretch.Outside e f n = absurd (kept-translation s stretch.Outside (originalIn s i (stretch.At a l)) n Eof refl)
+      → ((x : Refusal) → joined i (originalIn s i u) (translationIn s v) ≡ read.Refused x → ⊥) → Good s t i
+  by-strings stretch.Outside v e f n = absurd (n _ refl)
+  by-strings (stretch.At a l) stretch.Outside e f n = absurd (kept-translation i s stretch.Outside (originalIn s i (stretch.At a l)) n Eof refl)
   by-strings (stretch.At a l) (stretch.At b m) e f n =
       let p = passed (utf8 (context (original s a l))) (ended (original s a l)) (utf8 (id (original s a l))) (identified i (id (original s a l)))
-      (as-ladder i (original s a l) (kept-original (originalOf i (original s a l)) (translationIn s (stretch.At b m)) n)) in
+      (as-ladder i (original s a l) (kept-original i (originalOf i (original s a l)) (translationIn s (stretch.At b m)) n)) in
       record {
         at = a;
         len = l;
@@ -101,10 +102,10 @@ module _ (s : List ℕ) (t : Tables) (i : ℕ) where
         translation-in = f;
         segments-right =
             by-test (every utf8 (segments s b m) ≡ true) (every utf8 (segments s b m)) (λ g. g)
-            (λ g. absurd (kept-translation s (stretch.At b m) (originalOf i (original s a l)) n DecodingError (left (translation.At b m) (translation.Refused DecodingError) g)));
+            (λ g. absurd (kept-translation i s (stretch.At b m) (originalOf i (original s a l)) n DecodingError (left (translation.At b m) (translation.Refused DecodingError) g)));
       }
 
-  pub read-good : ((x : Error) → readAt s t i ≡ read.Refused x → ⊥) → Good s t i
+  pub read-good : ((x : Refusal) → readAt s t i ≡ read.Refused x → ⊥) → Good s t i
   unfolding readAt
   read-good n = by-strings (string (t .big) s (t .originals) i) (string (t .big) s (t .translations) i) refl refl n
 
@@ -116,9 +117,9 @@ module _ (s : List ℕ) (t : Tables) (i : ℕ) where
     right-translation : translationIn s (string (t .big) s (t .translations) i) ≡ translation.At (g .start) (g .size)
     right-translation = ap (translationIn s) (g .translation-in) ∙ taken (translation.At (g .start) (g .size)) (translation.Refused DecodingError) (g .segments-right)
 
-    as-read : {q : Original} → identified i (id (original s (g .at) (g .len))) ≡ q → readAt s t i ≡ joined q (translation.At (g .start) (g .size))
+    as-read : {q : Original} → identified i (id (original s (g .at) (g .len))) ≡ q → readAt s t i ≡ joined i q (translation.At (g .start) (g .size))
     unfolding readAt
-    as-read e = ap₂ joined (ap (originalIn s i) (g .original-in) ∙ by-id ∙ e) right-translation
+    as-read e = ap₂ (joined i) (ap (originalIn s i) (g .original-in) ∙ by-id ∙ e) right-translation
 
     pub good-header : id (original s (g .at) (g .len)) ≡ [] → readAt s t i ≡ read.Header (g .start) (g .size)
     good-header e = as-read (ap (identified i) e ∙ at-zero i (g .named e))

@@ -17,7 +17,9 @@ use Rattle.container_layout.specs.declared.Stretch.the-variants as stretch
 use Rattle.container_layout.specs.declared.Entry.{Entry}
 use Rattle.container_layout.specs.declared.Entry.the-variants as entries
 use Rattle.container_layout.proofs.Cells.{string-told}
-use Rattle.container_messages.specs.Messages.{identified, originalOf, originalIn, translationIn, joined, readAt}
+use Rattle.container_messages.specs.Messages.{identified, originalOf, originalIn, translationIn, refusedOn, joined, readAt}
+use Rattle.refusal.specs.declared.Refusal.{Refusal}
+use Rattle.refusal.specs.declared.Side.the-variants as side
 use Rattle.refusal.specs.declared.Error.{Error}
 use Rattle.refusal.specs.declared.Error.the-variants.{Eof, DecodingError, MisplacedMetadata}
 use Rattle.container_messages.specs.declared.Original.{Original}
@@ -28,12 +30,12 @@ use Rattle.container_messages.specs.declared.Read.{Read}
 use Rattle.container_messages.specs.declared.Read.the-variants as read
 
 -- what a header's parts are
-joined-header : (o : Original) (t : Translation) {a l : ℕ} → joined o t ≡ read.Header a l → (o ≡ original.Empty) × (t ≡ translation.At a l)
-joined-header (original.Refused x) t e = absurd (let z : _≡_ {A = ℕ} 0 1 = cc in omega arith)
-joined-header original.Named (translation.At b m) e = absurd (let z : _≡_ {A = ℕ} 0 1 = cc in omega arith)
-joined-header original.Named (translation.Refused x) e = absurd (let z : _≡_ {A = ℕ} 0 1 = cc in omega arith)
-joined-header original.Empty (translation.At b m) {a} {l} e = (refl, (let x : b ≡ a = cc in let y : m ≡ l = cc in rw (x, y)))
-joined-header original.Empty (translation.Refused x) e = absurd (let z : _≡_ {A = ℕ} 0 1 = cc in omega arith)
+joined-header : (i : ℕ) (o : Original) (t : Translation) {a l : ℕ} → joined i o t ≡ read.Header a l → (o ≡ original.Empty) × (t ≡ translation.At a l)
+joined-header i (original.Refused x) t e = absurd (let z : _≡_ {A = ℕ} 0 1 = cc in omega arith)
+joined-header i original.Named (translation.At b m) e = absurd (let z : _≡_ {A = ℕ} 0 1 = cc in omega arith)
+joined-header i original.Named (translation.Refused x) e = absurd (let z : _≡_ {A = ℕ} 0 1 = cc in omega arith)
+joined-header i original.Empty (translation.At b m) {a} {l} e = (refl, (let x : b ≡ a = cc in let y : m ≡ l = cc in rw (x, y)))
+joined-header i original.Empty (translation.Refused x) e = absurd (let z : _≡_ {A = ℕ} 0 1 = cc in omega arith)
 
 pub translation-at : (s : List ℕ) (z : Stretch) {a l : ℕ} → translationIn s z ≡ translation.At a l → z ≡ stretch.At a l
 translation-at s (stretch.At b m) {a} {l} e =
@@ -79,28 +81,28 @@ module _ (s : List ℕ) (t : Tables) where
   header-inside i e =
       string-told (t .big) s (t .translations) i
       (translation-at s (string (t .big) s (t .translations) i)
-      (joined-header (originalIn s i (string (t .big) s (t .originals) i)) (translationIn s (string (t .big) s (t .translations) i)) e .1))
+      (joined-header i (originalIn s i (string (t .big) s (t .originals) i)) (translationIn s (string (t .big) s (t .translations) i)) e .1))
 
   pub header-first : (i : ℕ) {a l : ℕ} → readAt s t i ≡ read.Header a l → i ≡ 0
   unfolding readAt
   header-first i e =
       empty-first s i (string (t .big) s (t .originals) i)
-      (joined-header (originalIn s i (string (t .big) s (t .originals) i)) (translationIn s (string (t .big) s (t .translations) i)) e .0)
+      (joined-header i (originalIn s i (string (t .big) s (t .originals) i)) (translationIn s (string (t .big) s (t .translations) i)) e .0)
 
   -- an original, then a translation
   module _ (i : ℕ) {q : Original} (e : q ≡ originalIn s i (string (t .big) s (t .originals) i)) where
-    pub read-refused : {x : Error} → q ≡ original.Refused x → read.Refused x ≡ readAt s t i
+    pub read-refused : {x : Error} → q ≡ original.Refused x → refusedOn i side.Original x ≡ readAt s t i
     unfolding readAt
-    read-refused f = sym (ap (λ (p : Original). joined p (translationIn s (string (t .big) s (t .translations) i))) (sym e ∙ f))
+    read-refused f = sym (ap (λ (p : Original). joined i p (translationIn s (string (t .big) s (t .translations) i))) (sym e ∙ f))
 
     module _ {u : Translation} {r : Read} where
-      pub read-named : q ≡ original.Named → u ≡ translationIn s (string (t .big) s (t .translations) i) → r ≡ joined original.Named u → r ≡ readAt s t i
+      pub read-named : q ≡ original.Named → u ≡ translationIn s (string (t .big) s (t .translations) i) → r ≡ joined i original.Named u → r ≡ readAt s t i
       unfolding readAt
-      read-named f g h = h ∙ ap (joined original.Named) g ∙ sym (ap (λ (p : Original). joined p (translationIn s (string (t .big) s (t .translations) i))) (sym e ∙ f))
+      read-named f g h = h ∙ ap (joined i original.Named) g ∙ sym (ap (λ (p : Original). joined i p (translationIn s (string (t .big) s (t .translations) i))) (sym e ∙ f))
 
-      pub read-empty : q ≡ original.Empty → u ≡ translationIn s (string (t .big) s (t .translations) i) → r ≡ joined original.Empty u → r ≡ readAt s t i
+      pub read-empty : q ≡ original.Empty → u ≡ translationIn s (string (t .big) s (t .translations) i) → r ≡ joined i original.Empty u → r ≡ readAt s t i
       unfolding readAt
-      read-empty f g h = h ∙ ap (joined original.Empty) g ∙ sym (ap (λ (p : Original). joined p (translationIn s (string (t .big) s (t .translations) i))) (sym e ∙ f))
+      read-empty f g h = h ∙ ap (joined i original.Empty) g ∙ sym (ap (λ (p : Original). joined i p (translationIn s (string (t .big) s (t .translations) i))) (sym e ∙ f))
 
 -- an entry, with its places
 pub record IsEntry (e : Entry) : Type 0 where
@@ -117,12 +119,12 @@ record Both (o : Original) (t : Translation) : Type 0 where
   len : ℕ
   at : t ≡ translation.At start len
 
-both : (o : Original) (t : Translation) → ((x : Error) → joined o t ≡ read.Refused x → ⊥) → Both o t
-both (original.Refused x) t n = absurd (n x refl)
-both original.Named (translation.At a l) n = record { kept = λ x q. let z : _≡_ {A = ℕ} 0 1 = cc in omega arith; start = a; len = l; at = refl }
-both original.Named (translation.Refused x) n = absurd (n x refl)
-both original.Empty (translation.At a l) n = record { kept = λ x q. let z : _≡_ {A = ℕ} 0 1 = cc in omega arith; start = a; len = l; at = refl }
-both original.Empty (translation.Refused x) n = absurd (n x refl)
+both : (i : ℕ) (o : Original) (t : Translation) → ((x : Refusal) → joined i o t ≡ read.Refused x → ⊥) → Both o t
+both i (original.Refused x) t n = absurd (n _ refl)
+both i original.Named (translation.At a l) n = record { kept = λ x q. let z : _≡_ {A = ℕ} 0 1 = cc in omega arith; start = a; len = l; at = refl }
+both i original.Named (translation.Refused x) n = absurd (n _ refl)
+both i original.Empty (translation.At a l) n = record { kept = λ x q. let z : _≡_ {A = ℕ} 0 1 = cc in omega arith; start = a; len = l; at = refl }
+both i original.Empty (translation.Refused x) n = absurd (n _ refl)
 
 keyed-entry : (s : List ℕ) (i : ℕ) (u v : Stretch) → Both (originalIn s i u) (translationIn s v) → IsEntry (keyed s u v)
 keyed-entry s i (stretch.At a l) v h =
@@ -136,10 +138,10 @@ keyed-entry s i (stretch.At a l) v h =
     }
 keyed-entry s i stretch.Outside v h = absurd (h .kept Eof refl)
 
-pub read-entry : (s : List ℕ) (t : Tables) (i : ℕ) → ((z : Error) → readAt s t i ≡ read.Refused z → ⊥) → IsEntry (entry s t i)
+pub read-entry : (s : List ℕ) (t : Tables) (i : ℕ) → ((z : Refusal) → readAt s t i ≡ read.Refused z → ⊥) → IsEntry (entry s t i)
 unfolding readAt entry
 read-entry s t i e =
-    keyed-entry s i (string (t .big) s (t .originals) i) (string (t .big) s (t .translations) i) (both (originalIn s i (string (t .big) s (t .originals) i)) (translationIn s (string (t .big) s (t .translations) i)) e)
+    keyed-entry s i (string (t .big) s (t .originals) i) (string (t .big) s (t .translations) i) (both i (originalIn s i (string (t .big) s (t .originals) i)) (translationIn s (string (t .big) s (t .translations) i)) e)
 
 -- an entry that was read has a translation whose segments are all UTF-8
 record Right (s : List ℕ) (z : Stretch) : Type 0 where
@@ -148,9 +150,9 @@ record Right (s : List ℕ) (z : Stretch) : Type 0 where
   at : z ≡ stretch.At start len
   right : every utf8 (segments s start len) ≡ true
 
-right-in : (o : Original) (s : List ℕ) (z : Stretch) → ((x : Error) → joined o (translationIn s z) ≡ read.Refused x → ⊥) → Right s z
-right-in o s z n =
-    let h = both o (translationIn s z) n in
+right-in : (i : ℕ) (o : Original) (s : List ℕ) (z : Stretch) → ((x : Refusal) → joined i o (translationIn s z) ≡ read.Refused x → ⊥) → Right s z
+right-in i o s z n =
+    let h = both i o (translationIn s z) n in
     let e = translation-at s z (h .at) in
     record { start = h .start; len = h .len; at = e; right = all-right (h .start) (h .len) (sym (ap (translationIn s) e) ∙ h .at) }
   where
@@ -174,8 +176,8 @@ keyed-right s (stretch.At c l) v h {a} {n} {b} {m} e =
     absurd (let z : _≡_ {A = ℕ} 0 1 = cc in omega arith))
 keyed-right s stretch.Outside v h e = absurd (let z : _≡_ {A = ℕ} 0 1 = cc in omega arith)
 
-pub read-right : (s : List ℕ) (t : Tables) (i : ℕ) → ((z : Error) → readAt s t i ≡ read.Refused z → ⊥) → {a n c m : ℕ}
+pub read-right : (s : List ℕ) (t : Tables) (i : ℕ) → ((z : Refusal) → readAt s t i ≡ read.Refused z → ⊥) → {a n c m : ℕ}
     → entry s t i ≡ entries.At a n c m → every utf8 (segments s c m) ≡ true
 unfolding readAt entry
 read-right s t i n e =
-    keyed-right s (string (t .big) s (t .originals) i) (string (t .big) s (t .translations) i) (right-in (originalIn s i (string (t .big) s (t .originals) i)) s (string (t .big) s (t .translations) i) n) e
+    keyed-right s (string (t .big) s (t .originals) i) (string (t .big) s (t .translations) i) (right-in i (originalIn s i (string (t .big) s (t .originals) i)) s (string (t .big) s (t .translations) i) n) e

@@ -2,3 +2,4 @@ pub mod Originals
 pub mod Entries
 pub mod Accepts
 mod Unique
+pub mod Before

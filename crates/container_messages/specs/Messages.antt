@@ -1,4 +1,4 @@
--- The entries of a file. SPEC 3.4 and 3.5. A stage hands on its value or its refusal.
+-- The entries of a file. SPEC 3.4 and 3.5. A stage hands on its value or its refusal, with the entry's index and the side (SPEC 2).
 use Prim.Native.Nat.{ℕ}
 use mathlib.Core.Bool.{true, false}
 use mathlib.Core.List.{List, [], _∷_}
@@ -9,7 +9,12 @@ use Rattle.container_layout.specs.Mo.{string, original, context, id, ended, seg
 use Rattle.container_layout.specs.declared.Tables.{Tables}
 use Rattle.container_layout.specs.declared.Stretch.{Stretch}
 use Rattle.container_layout.specs.declared.Stretch.the-variants as stretch
+use Rattle.refusal.specs.Places.{at}
+use Rattle.refusal.specs.declared.Error.{Error}
 use Rattle.refusal.specs.declared.Error.the-variants.{Eof, DecodingError, MisplacedMetadata}
+use Rattle.refusal.specs.declared.Side.{Side}
+use Rattle.refusal.specs.declared.Side.the-variants as side
+use Rattle.refusal.specs.declared.Where.the-variants.{Entry}
 use Rattle.container_messages.specs.declared.Original.{Original}
 use Rattle.container_messages.specs.declared.Original.the-variants as original
 use Rattle.container_messages.specs.declared.Translation.{Translation}
@@ -42,13 +47,17 @@ translationIn s (stretch.At start len) =
     elim (every utf8 (segments s start len)) [ true ↦ translation.At start len | false ↦ translation.Refused DecodingError ]
 translationIn s stretch.Outside = translation.Refused Eof
 
-abbrev pub joined : Original → Translation → Read
-joined (original.Refused e) t = read.Refused e
-joined original.Named (translation.At start len) = read.Message
-joined original.Named (translation.Refused e) = read.Refused e
-joined original.Empty (translation.At start len) = read.Header start len
-joined original.Empty (translation.Refused e) = read.Refused e
+-- entry i: a refused original counts before a refused translation, the header's too
+abbrev pub refusedOn : ℕ → Side → Error → Read
+refusedOn i k e = read.Refused (at (Entry i k) e)
+
+abbrev pub joined : ℕ → Original → Translation → Read
+joined i (original.Refused e) t = refusedOn i side.Original e
+joined i original.Named (translation.At start len) = read.Message
+joined i original.Named (translation.Refused e) = refusedOn i side.Translation e
+joined i original.Empty (translation.At start len) = read.Header start len
+joined i original.Empty (translation.Refused e) = refusedOn i side.Translation e
 
 unfoldable pub readAt : List ℕ → Tables → ℕ → Read
 unfolding originalOf
-readAt s t i = joined (originalIn s i (string (t .big) s (t .originals) i)) (translationIn s (string (t .big) s (t .translations) i))
+readAt s t i = joined i (originalIn s i (string (t .big) s (t .originals) i)) (translationIn s (string (t .big) s (t .translations) i))

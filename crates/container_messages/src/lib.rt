@@ -5,10 +5,13 @@ ghost use Prim.Native.Nat.{_+_, _-_, _≤_};
 ghost use lib.ListN.{length, take, drop};
 ghost use Rattle.text_utf8.specs.Utf8.{utf8};
 ghost use Rattle.container_layout.specs.Mo.{string};
-ghost use Rattle.container_messages.specs.Messages.{originalOf, originalIn, translationIn, joined, readAt};
+ghost use Rattle.container_messages.specs.Messages.{originalOf, originalIn, translationIn, refusedOn, joined, readAt};
 use container_layout::Stretch;
 use container_layout::Tables;
 use refusal::Error;
+use refusal::Refusal;
+use refusal::Side;
+use refusal::Where;
 
 // An original with an id, or with an empty one.
 enum Original {
@@ -27,7 +30,14 @@ enum Translation {
 pub enum Read {
     Message,
     Header(usize, usize),
-    Refused(Error),
+    Refused(Refusal),
+}
+
+// A test of entry i failed, on that side.
+fn refused(i: usize, side: Side, e: Error) -> Read
+    ensures { λ r. ⌜ r ≡ refusedOn i side e ⌝ }
+{
+    Read::Refused(refusal::at(Where::Entry(i, side), e))
 }
 
 // The original of an index with the byte after it: its context and its id.
@@ -89,21 +99,21 @@ fn translation_at(file: &[u8], big: bool, translations: u32, i: usize) -> Transl
     Translation::Refused(Error::DecodingError)
 }
 
-fn message(translation: Translation) -> Read
-    ensures { λ r. ⌜ r ≡ joined Original.Named translation ⌝ }
+fn message(translation: Translation, i: usize) -> Read
+    ensures { λ r. ⌜ r ≡ joined i Original.Named translation ⌝ }
 {
     match translation {
         Translation::At(start, len) => Read::Message,
-        Translation::Refused(e) => Read::Refused(e),
+        Translation::Refused(e) => refused(i, Side::Translation, e),
     }
 }
 
-fn header_of(translation: Translation) -> Read
-    ensures { λ r. ⌜ r ≡ joined Original.Empty translation ⌝ }
+fn header_of(translation: Translation, i: usize) -> Read
+    ensures { λ r. ⌜ r ≡ joined i Original.Empty translation ⌝ }
 {
     match translation {
         Translation::At(start, len) => Read::Header(start, len),
-        Translation::Refused(e) => Read::Refused(e),
+        Translation::Refused(e) => refused(i, Side::Translation, e), // not yet the header's
     }
 }
 
@@ -113,8 +123,8 @@ pub fn parse_entry(file: &[u8], t: Tables, i: usize) -> Read
 {
     let original = original_at(file, t.big, t.originals, i);
     match original {
-        Original::Refused(e) => Read::Refused(e),
-        Original::Named => message(translation_at(file, t.big, t.translations, i)),
-        Original::Empty => header_of(translation_at(file, t.big, t.translations, i)),
+        Original::Refused(e) => refused(i, Side::Original, e),
+        Original::Named => message(translation_at(file, t.big, t.translations, i), i),
+        Original::Empty => header_of(translation_at(file, t.big, t.translations, i), i),
     }
 }

@@ -20,6 +20,7 @@ use Rattle.header.specs.declared.Metadata.{Metadata}
 use Rattle.header.specs.declared.Metadata.the-variants.{Malformed, Fields}
 use Rattle.header.proofs.Ends.{Inside, fields-end}
 use Rattle.container_layout.specs.Mo.{segments}
+use Rattle.refusal.specs.Places.{at, inHeader}
 use Rattle.refusal.specs.declared.Error.the-variants.{MalformedMetadata, UnknownEncoding}
 use Rattle.container_rule.specs.Rule.{labelOk, headed, ruleAt, segment0, shifted, headerAt}
 use Rattle.container_rule.specs.Promise.{endOfRule}
@@ -47,7 +48,7 @@ label-absent h e f = or-second e (rw f)
 
 -- where the rule lies
 module _ (forced utf8 : Bool) (h : List ℕ) {m : Metadata} (e : m ≡ metadata h) where
-  pub malformed : m ≡ Malformed → Refused MalformedMetadata ≡ ruleAt forced utf8 h
+  pub malformed : m ≡ Malformed → Refused (at inHeader MalformedMetadata) ≡ ruleAt forced utf8 h
   unfolding ruleAt
   malformed f = rw (← e, f)
 
@@ -60,7 +61,7 @@ module _ (forced utf8 : Bool) (h : List ℕ) {m : Metadata} (e : m ≡ metadata 
     at-fields = rw (← e, f)
 
     module _ {k : Bool} (g : k ≡ (utf8 || labelOk h p)) where
-      pub unknown : k ≡ false → Refused UnknownEncoding ≡ ruleAt forced utf8 h
+      pub unknown : k ≡ false → Refused (at inHeader UnknownEncoding) ≡ ruleAt forced utf8 h
       unknown t = sym (at-fields ∙ left _ _ (sym g ∙ t))
 
       pub rule-forced : k ≡ true → forced ≡ true → Rule Absent ≡ ruleAt forced utf8 h
@@ -77,7 +78,7 @@ headed-end forced utf8 h (Fields p q) e =
     by-test (endOfRule (headed forced utf8 h (Fields p q)) ≤ length h) forced
     (λ u. let z : headed forced utf8 h (Fields p q) ≡ Rule Absent = taken _ _ t ∙ ap Rule (taken _ _ u) in rw z (omega arith))
     (λ u. let z : headed forced utf8 h (Fields p q) ≡ Rule q = taken _ _ t ∙ ap Rule (left _ _ u) in rw z (fields-end h e .rule)))
-    (λ t. let z : headed forced utf8 h (Fields p q) ≡ Refused UnknownEncoding = left _ _ t in rw z (omega arith))
+    (λ t. let z : headed forced utf8 h (Fields p q) ≡ Refused (at inHeader UnknownEncoding) = left _ _ t in rw z (omega arith))
 
 pub rule-ends : (forced utf8 : Bool) (h : List ℕ) → endOfRule (ruleAt forced utf8 h) ≤ length h
 unfolding ruleAt

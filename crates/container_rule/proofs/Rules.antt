@@ -6,7 +6,9 @@ use mathlib.Core.List.{List}
 use native.Mathlib.Omega.{arith}
 use lib.ListN.{take, drop}
 use Rattle.text.proofs.Tests.{taken, left}
-use Rattle.refusal.specs.declared.Error.{Error}
+use Rattle.refusal.specs.Places.{inRule}
+use Rattle.refusal.specs.declared.Refusal.{Refusal}
+use Rattle.refusal.specs.declared.Where.the-variants.{Forced}
 use Rattle.refusal.specs.declared.Outcome.the-variants as outcome
 use Rattle.rules.specs.Tree.{Tree, defaultTree}
 use Rattle.rules.specs.Pool.{Pool}
@@ -27,8 +29,8 @@ a-rule e f = record { outcome = refl; nodes = f; stored = e }
 
 -- a forced rule is read, else the default stands
 module _ (forced : Bool) (reading : Reading) (s : List ℕ) {Q : Pool} {r : Parsed} where
-  pub forced-read : forced ≡ true → Parses (parsed reading s) Q r → Parses (forcedRule forced reading s) Q r
-  forced-read e g = let z : forcedRule forced reading s ≡ parsed reading s = taken _ _ e in rw z g
+  pub forced-read : forced ≡ true → Parses (parsed Forced reading s) Q r → Parses (forcedRule forced reading s) Q r
+  forced-read e g = let z : forcedRule forced reading s ≡ parsed Forced reading s = taken _ _ e in rw z g
 
   pub none-forced : forced ≡ false → Parses (rule defaultTree) Q r → Parses (forcedRule forced reading s) Q r
   none-forced e g = let z : forcedRule forced reading s ≡ rule defaultTree = left _ _ e in rw z g
@@ -38,13 +40,13 @@ pub rule-end : {f : First} {p : Place} {a l : ℕ} → f ≡ first.Rule p → p 
 rule-end e g n h = rw (e, g) at h
 
 module _ (reading : Reading) (s : List ℕ) {f : First} {k : ℕ} {P Q : Pool} where
-  pub rule-there : {p : Place} {a l : ℕ} {r : Parsed} → f ≡ first.Rule p → p ≡ At a l → Parses (parsed reading (take (a + l - a) (drop a s))) Q r → Chooses reading s f k P Q r
+  pub rule-there : {p : Place} {a l : ℕ} {r : Parsed} → f ≡ first.Rule p → p ≡ At a l → Parses (parsed inRule reading (take (a + l - a) (drop a s))) Q r → Chooses reading s f k P Q r
   rule-there {p} {a} {l} e d g = let z : a + l - a ≡ l = omega arith in record { chosen = rw (e, d, ← z) g }
 
   pub rule-absent : {p : Place} → f ≡ first.Rule p → p ≡ Absent → Q ≡ P → Chooses reading s f k P Q (record { outcome = outcome.Loaded; nodes = k })
   rule-absent e d g = record { chosen = rw (e, d) (refl, g) }
 
-  pub rule-refused : {x : Error} {r : Parsed} → f ≡ first.Refused x → Parses (norule x) Q r → Chooses reading s f k P Q r
+  pub rule-refused : {x : Refusal} {r : Parsed} → f ≡ first.Refused x → Parses (norule x) Q r → Chooses reading s f k P Q r
   rule-refused e g = record { chosen = rw e g }
 
 -- the stage's rule, whatever tree was there before

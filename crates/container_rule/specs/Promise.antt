@@ -3,6 +3,7 @@ use Prim.Native.Nat.{ℕ}
 use mathlib.Core.Path.{_≡_}
 use mathlib.Core.List.{List}
 use lib.ListN.{take, drop}
+use Rattle.refusal.specs.Places.{inRule}
 use Rattle.refusal.specs.declared.Outcome.the-variants.{Loaded}
 use Rattle.rules.specs.Pool.{Pool}
 use Rattle.reading_rule.specs.Plurals.{norule, parsed, Parses}
@@ -20,7 +21,7 @@ endOfRule (first.Refused e) = 0
 
 -- the rule at that place takes the place of the one before, of k nodes: P are the arrays before, Q after
 abbrev pub Chosen : Reading → List ℕ → First → ℕ → Pool → Pool → Parsed → Type 0
-Chosen reading s (first.Rule (At start len)) k P Q r = Parses (parsed reading (take len (drop start s))) Q r
+Chosen reading s (first.Rule (At start len)) k P Q r = Parses (parsed inRule reading (take len (drop start s))) Q r
 Chosen reading s (first.Rule Absent) k P Q r = (r ≡ record { outcome = Loaded; nodes = k }) × (Q ≡ P)
 Chosen reading s (first.Refused e) k P Q r = Parses (norule e) Q r
 

@@ -4,7 +4,9 @@ use Prim.Native.Nat.{ℕ, zero, suc}
 use mathlib.Core.Bool.{Bool, true, false, _||_}
 use mathlib.Core.List.{List, [], _∷_}
 use lib.ListN.{take, drop}
+use Rattle.refusal.specs.Places.{at, inHeader, inRule}
 use Rattle.refusal.specs.declared.Error.the-variants.{MalformedMetadata, UnknownEncoding}
+use Rattle.refusal.specs.declared.Where.the-variants.{Forced}
 use Rattle.rules.specs.Tree.{Tree, defaultTree}
 use Rattle.reading_rule.specs.Plurals.{Parse, rule, norule, parsed}
 use Rattle.reading_rule.specs.declared.Reading.{Reading}
@@ -24,7 +26,7 @@ use Rattle.container_rule.specs.declared.First.the-variants as first
 
 -- 1. the forced rule, where one is given
 abbrev pub forcedRule : Bool → Reading → List ℕ → Parse
-forcedRule forced reading f = elim forced [ true ↦ parsed reading f | false ↦ rule defaultTree ]
+forcedRule forced reading f = elim forced [ true ↦ parsed Forced reading f | false ↦ rule defaultTree ]
 
 -- 6. the charset label, if there is one
 abbrev pub labelOk : List ℕ → Place → Bool
@@ -33,9 +35,9 @@ labelOk h Absent = true
 
 -- where the rule lies that the header gives; a forced one stands instead
 abbrev pub headed : Bool → Bool → List ℕ → Metadata → First
-headed forced utf8 h metadata.Malformed = first.Refused MalformedMetadata
+headed forced utf8 h metadata.Malformed = first.Refused (at inHeader MalformedMetadata)
 headed forced utf8 h (metadata.Fields label place) =
-    elim (utf8 || labelOk h label) [ true ↦ first.Rule (elim forced [ true ↦ Absent | false ↦ place ]) | false ↦ first.Refused UnknownEncoding ]
+    elim (utf8 || labelOk h label) [ true ↦ first.Rule (elim forced [ true ↦ Absent | false ↦ place ]) | false ↦ first.Refused (at inHeader UnknownEncoding) ]
 
 unfoldable pub ruleAt : Bool → Bool → List ℕ → First
 ruleAt forced utf8 h = headed forced utf8 h (metadata h)
@@ -68,6 +70,6 @@ firstRule forced utf8 s t = firstFrom forced utf8 s t (t .count)
 
 -- the rule at that place of a text, in place of the one before
 abbrev pub ruleIn : Reading → List ℕ → Tree → First → Parse
-ruleIn reading s t (first.Rule (At start len)) = parsed reading (take len (drop start s))
+ruleIn reading s t (first.Rule (At start len)) = parsed inRule reading (take len (drop start s))
 ruleIn reading s t (first.Rule Absent) = rule t
 ruleIn reading s t (first.Refused e) = norule e

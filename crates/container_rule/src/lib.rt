@@ -8,11 +8,15 @@ use reading_rule::Parsed;
 use reading_rule::Reading;
 use refusal::Error;
 use refusal::Outcome;
+use refusal::Refusal;
+use refusal::Side;
+use refusal::Where;
 ghost use mathlib.Core.Path.{_≡_};
 ghost use mathlib.Core.Bool.{_||_};
 ghost use Prim.Native.Nat.{_+_, _^_, _<_, _≤_};
 ghost use lib.ListN.{length};
 ghost use Rattle.rules.specs.Pool.{pool};
+ghost use Rattle.refusal.specs.Places.{at, inHeader};
 ghost use Rattle.header_fields.specs.Promise.{endOf};
 ghost use Rattle.reading_rule.specs.Plurals.{Parses};
 ghost use Rattle.container_rule.specs.Rule.{labelOk, ruleAt, shifted, headerAt, firstRule, forcedRule};
@@ -21,7 +25,14 @@ ghost use Rattle.container_rule.specs.Promise.{endOfRule, Chooses};
 // Where the header's rule lies that is to be read, if any, or why the load ends.
 pub enum First {
     Rule(Place),
-    Refused(Error),
+    Refused(Refusal),
+}
+
+// The header is entry 0's.
+fn refused(e: Error) -> First
+    ensures { λ r. ⌜ r ≡ First.Refused (at inHeader e) ⌝ }
+{
+    First::Refused(refusal::at(Where::Entry(0, Side::Header), e))
 }
 
 // UTF-8 is forced, or the label is one of UTF-8's, or there is none.
@@ -47,10 +58,10 @@ fn parse_header(h: &[u8], forced: bool, utf8: bool) -> First
 {
     let fields = header::parse_metadata(h);
     let Metadata::Fields(label, rule) = fields else {
-        return First::Refused(Error::MalformedMetadata);
+        return refused(Error::MalformedMetadata);
     };
     if !is_known(h, label, utf8) {
-        return First::Refused(Error::UnknownEncoding);
+        return refused(Error::UnknownEncoding);
     }
     if forced {
         return First::Rule(Place::Absent); // the forced one stands instead
@@ -106,7 +117,7 @@ pub fn parse_forced(
     ensures { λ r. ⌜ Parses (forcedRule given reading (now (text .entry))) (pool (now (codes .exit)) (now (places .exit)) (now (values .exit))) r ⌝ }
 {
     if given {
-        return reading_rule::parse(text, reading, codes, places, values);
+        return reading_rule::parse(text, Where::Forced, reading, codes, places, values);
     }
     let nodes = rules::put_default(codes, places, values);
     Parsed {
@@ -134,7 +145,15 @@ pub fn rule_of(
         First::Rule(rule) => match rule {
             Place::At(start, len) => {
                 let rule_end = start + len;
-                reading_rule::parse(&file[start..rule_end], reading, codes, places, values)
+                let place = Where::Entry(0, Side::Rule);
+                reading_rule::parse(
+                    &file[start..rule_end],
+                    place,
+                    reading,
+                    codes,
+                    places,
+                    values,
+                )
             }
             Place::Absent => Parsed {
                 outcome: Outcome::Loaded,

@@ -2,6 +2,7 @@
 // count and the last, each on a line of its own.
 use reading_rule::Reading;
 use refusal::Outcome;
+use refusal::Where;
 use rules_span::Counting;
 use text_digits::Number;
 ghost use Prim.Native.Nat.{_≤_};
@@ -63,6 +64,7 @@ fn count(rule: &[u8], a: u64, b: u64) {
     let mut values = [0u64; 512];
     let parsed = reading_rule::parse(
         rule,
+        Where::Forced,
         Reading::Standard,
         &mut codes,
         &mut places,
@@ -70,7 +72,7 @@ fn count(rule: &[u8], a: u64, b: u64) {
     );
     let outcome = parsed.outcome;
     if let Outcome::Refused(e) = outcome {
-        refuse(refusal::number_of(e));
+        refuse(refusal::number_of(refusal::error_of(e)));
         return;
     }
     let nodes = parsed.nodes;

@@ -1,6 +1,6 @@
 -- The three demands, over the functions that a host links. Each function's promise is its contract in src/lib.rt; here the promises are put
--- together. In all of it s is the file, f the text of the forced rule, o the options; r and Q are what `gettext_c_load` left: its number
--- and the head of the record, and the arrays of the rule. "Unaltered" is that the later calls get this very head and these arrays.
+-- together. In all of it s is the file, f the text of the forced rule, o the options; r and Q are what `gettext_c_load` left: its number,
+-- where it failed and the head of the record, and the arrays of the rule. "Unaltered" is that the later calls get this very head and these arrays.
 -- Assumes nothing.
 use Prim.{tt}
 use Prim.Native.Nat.{ℕ, _+_, _^_, _<_, _≤_}
@@ -17,7 +17,9 @@ use Rattle.text_utf8.specs.Utf8.{utf8}
 use Rattle.text_utf8.specs.Scalar.{Text}
 use Rattle.text_utf8.proofs.Scalars.{utf8-is-text}
 use Rattle.refusal.specs.Numbers.{numberOf, outcomeNumber}
-use Rattle.refusal.specs.declared.Error.{Error}
+use Rattle.refusal.specs.Places.{indexOf, sideOf, sideNumber, named, indexOr0}
+use Rattle.refusal.specs.declared.Where.{Where}
+use Rattle.refusal.specs.declared.Refusal.{Refusal}
 use Rattle.refusal.specs.declared.Error.the-variants as error
 use Rattle.rules.specs.Tree.{Tree, defaultTree}
 use Rattle.rules.specs.Value.{evalTree, truth}
@@ -53,7 +55,9 @@ use Rattle.container.specs.Accepts.{Accepts, Fails}
 use Rattle.container.specs.Promise.{outcomeOf}
 use Rattle.container.specs.declared.Options.{Options}
 use Rattle.container.proofs.Exactly.{accepted-exactly, refused-exactly}
-use Rattle.host.specs.Host.{tablesIn, nodesIn, rootIn, ownFor, answerOf, ratingOf, fitsOf}
+use Rattle.container.specs.Before as before
+use Rattle.container.proofs.Before.{numberIn, same-number}
+use Rattle.host.specs.Host.{sideOfLoad, enteredBy, entryOfLoad, tablesIn, nodesIn, rootIn, ownFor, answerOf, ratingOf, fitsOf}
 use Rattle.host.specs.declared.Loaded.{Loaded}
 use Rattle.host.specs.declared.Answer as host-answer
 use Rattle.host.specs.declared.Rating.{Rating}
@@ -142,11 +146,17 @@ pub record IsCatalog (o : Options) (f s : List ℕ) (Q : Pool) (r : Loaded) : Ty
   pub facts : Accepts o f s (tablesIn (r .head)) tree
   pub stored : Q ≡ packed tree
 
--- and a number e exactly if e is that of the first test that fails, at the lowest index
+-- and the number and the place of a refusal exactly if they are those of the first test that fails, at the lowest index
+pub record Tells (x : Refusal) (r : Loaded) : Type 0 where
+  pub number : r .number ≡ numberOf (x .error)
+  pub side : r .side ≡ sideNumber (sideOf (x .place))
+  pub entered : r .entered ≡ truth (named (indexOf (x .place)))
+  pub entry : r .entry ≡ indexOr0 (indexOf (x .place))
+
 pub record IsRefused (o : Options) (f s : List ℕ) (r : Loaded) : Type 0 where
-  pub error : Error
-  pub number : r .number ≡ numberOf error
-  pub fails : Fails o f s error
+  pub refusal : Refusal
+  pub tells : Tells refusal r
+  pub fails : Fails o f s refusal
 
 module _ (o : Options) (f s : List ℕ) {Q : Pool} {r : Loaded} (loads : Loads (load o f s) Q r) where
   pub demand-2-accepts : r .number ≡ 0 → IsCatalog o f s Q r
@@ -160,19 +170,32 @@ module _ (o : Options) (f s : List ℕ) {Q : Pool} {r : Loaded} (loads : Loads (
         loads .rule-is ∙ ap (λ (a : Answer). packed (treeIn a)) e,
       )
 
-  pub demand-2-fails : (e : Error) → Fails o f s e → r .number ≡ numberOf e
-  demand-2-fails e w = loads .number-is ∙ ap (λ (a : Answer). outcomeNumber (outcomeOf a)) (refused-exactly o f s e .1 w)
+  telling : {x : Refusal} → load o f s ≡ refused x → Tells x r
+  telling e =
+      record {
+        number = loads .number-is ∙ ap (λ (a : Answer). outcomeNumber (outcomeOf a)) e;
+        side = loads .side-is ∙ ap (λ (a : Answer). sideOfLoad (outcomeOf a)) e;
+        entered = loads .entered-is ∙ ap (λ (a : Answer). enteredBy (outcomeOf a)) e;
+        entry = loads .entry-is ∙ ap (λ (a : Answer). entryOfLoad (outcomeOf a)) e;
+      }
+
+  pub demand-2-fails : (x : Refusal) → Fails o f s x → Tells x r
+  demand-2-fails x w = telling (refused-exactly o f s x .1 w)
 
   pub demand-2-refused : (r .number ≡ 0 → ⊥) → IsRefused o f s r
   demand-2-refused n = by-answer (load o f s) refl
     where
       by-answer : (a : Answer) → load o f s ≡ a → IsRefused o f s r
       by-answer (accepted t u) e = absurd (n (loads .number-is ∙ ap (λ (a : Answer). outcomeNumber (outcomeOf a)) e))
-      by-answer (refused x) e = record { error = x; number = loads .number-is ∙ ap (λ (a : Answer). outcomeNumber (outcomeOf a)) e; fails = refused-exactly o f s x .0 e }
+      by-answer (refused x) e = record { refusal = x; tells = telling e; fails = refused-exactly o f s x .0 e }
 
--- a rule text is read as a tree, in the Standard reading, exactly if, trimmed, it means that tree in C's grammar (GNU gettext manual, 11.2.6)
-pub demand-2-rule : (f : List ℕ) (t : Tree) → (parsed Standard f ≡ rule t) ↔ IsRule (trim whiteSpace f) t
-demand-2-rule f t = standard-exactly f t
+  -- the number is the one that the stages give without places
+  pub demand-2-as-before : r .number ≡ numberIn (before.load o f s)
+  demand-2-as-before = loads .number-is ∙ same-number o f s
+
+-- a rule text, wherever it stands, is read as a tree, in the Standard reading, exactly if, trimmed, it means that tree in C's grammar (GNU gettext manual, 11.2.6)
+pub demand-2-rule : (w : Where) (f : List ℕ) (t : Tree) → (parsed w Standard f ≡ rule t) ↔ IsRule (trim whiteSpace f) t
+demand-2-rule w f t = standard-exactly w f t
 
 -- 3. The rule that was loaded, at a count: it takes no remainder by zero, and yields a form from lo to hi, so below k; that is what the
 -- function `gettext_c_resolve` tells.

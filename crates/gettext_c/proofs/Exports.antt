@@ -20,7 +20,7 @@ use Rattle.container_layout.specs.declared.Tables.{Tables}
 use Rattle.lookup_index.specs.Index.{building, leaves, number}
 use Rattle.lookup_index.specs.declared.Building.{Building}
 use Rattle.host.specs.Host as host
-use Rattle.host.specs.Host.{headOf, loadedOf, nodesIn, rootIn}
+use Rattle.host.specs.Host.{headOf, sideOfLoad, enteredBy, entryOfLoad, loadedOf, nodesIn, rootIn}
 use Rattle.host.specs.declared.Loaded as loaded
 use Rattle.gettext_c.specs.Record.{Loads, IsEmpty, Indexes, Writes}
 
@@ -32,6 +32,9 @@ pub loads : (a : Answer) {Q : Pool} {r : Loading} {q : loaded.Loaded} → promis
 loads a {r = r} h e f =
     record {
       number-is = ap (λ (x : loaded.Loaded). x .number) e ∙ ap outcomeNumber (h .outcome-is);
+      side-is = ap (λ (x : loaded.Loaded). x .side) e ∙ ap sideOfLoad (h .outcome-is);
+      entered-is = ap (λ (x : loaded.Loaded). x .entered) e ∙ ap enteredBy (h .outcome-is);
+      entry-is = ap (λ (x : loaded.Loaded). x .entry) e ∙ ap entryOfLoad (h .outcome-is);
       head-is = ap (λ (x : loaded.Loaded). x .head) e ∙ ap₂ headOf (h .tables-are) (h .nodes-are);
       tables-are = f ∙ h .tables-are;
       rule-is = h .rule-is;
@@ -48,6 +51,9 @@ pub empties : {Q : Pool} {r : Loading} {q : loaded.Loaded} → promise.Empties L
 empties h e f =
     record {
       number-is = ap (λ (x : loaded.Loaded). x .number) e ∙ ap outcomeNumber (h .outcome-is);
+      side-is = ap (λ (x : loaded.Loaded). x .side) e ∙ ap sideOfLoad (h .outcome-is);
+      entered-is = ap (λ (x : loaded.Loaded). x .entered) e ∙ ap enteredBy (h .outcome-is);
+      entry-is = ap (λ (x : loaded.Loaded). x .entry) e ∙ ap entryOfLoad (h .outcome-is);
       head-is = ap (λ (x : loaded.Loaded). x .head) e ∙ ap₂ headOf (h .tables-are) (h .nodes-are);
       tables-are = f ∙ h .tables-are;
       rule-is = h .rule-is;

@@ -58,7 +58,7 @@ never-0 error.BadSpan e = omega arith
 -- so a load with number 0 was accepted
 number-0-accepted : (a : Answer) → outcomeNumber (outcomeOf a) ≡ 0 → a ≡ accepted (tablesIn a) (treeIn a)
 number-0-accepted (accepted t r) e = refl
-number-0-accepted (refused x) e = absurd (never-0 x e)
+number-0-accepted (refused x) e = absurd (never-0 (x .error) e)
 
 -- 11 is not the number of what follows from a value
 rule-reason : (s : List ℕ) (v : Value) (h : Hit) → number (byRule s (formOf v) h) ≡ numberOf error.BadRecord → ⊥

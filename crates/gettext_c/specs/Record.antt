@@ -19,18 +19,24 @@ use Rattle.lookup.specs.declared.Reason.{Reason}
 use Rattle.container.specs.Catalog.{Answer, noTables, tablesIn, treeIn}
 use Rattle.container.specs.Promise.{outcomeOf}
 use Rattle.host.specs.Host as host
-use Rattle.host.specs.Host.{headOf, nodesIn, rootIn}
+use Rattle.host.specs.Host.{headOf, sideOfLoad, enteredBy, entryOfLoad, nodesIn, rootIn}
 use Rattle.host.specs.declared.Loaded.{Loaded}
 
--- a load answers the number, the head, which says the tables, and the arrays of its answer; Q are the arrays at exit
+-- a load answers the number, where a refused one failed, the head, which says the tables, and the arrays of its answer; Q are the arrays at exit
 pub record Loads (a : Answer) (Q : Pool) (r : Loaded) : Type 0 where
   pub number-is : r .number ≡ outcomeNumber (outcomeOf a)
+  pub side-is : r .side ≡ sideOfLoad (outcomeOf a)
+  pub entered-is : r .entered ≡ enteredBy (outcomeOf a)
+  pub entry-is : r .entry ≡ entryOfLoad (outcomeOf a)
   pub head-is : r .head ≡ headOf (tablesIn a) (packedSize (treeIn a))
   pub tables-are : host.tablesIn (r .head) ≡ tablesIn a
   pub rule-is : Q ≡ packed (treeIn a)
 
 pub record IsEmpty (Q : Pool) (r : Loaded) : Type 0 where
   pub number-is : r .number ≡ 0
+  pub side-is : r .side ≡ 0
+  pub entered-is : r .entered ≡ 0
+  pub entry-is : r .entry ≡ 0
   pub head-is : r .head ≡ headOf noTables (packedSize defaultTree)
   pub tables-are : host.tablesIn (r .head) ≡ noTables
   pub rule-is : Q ≡ packed defaultTree

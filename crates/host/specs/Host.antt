@@ -1,10 +1,12 @@
--- What the layers below take and answer, as numbers. SPEC 2 and 8.
+-- What the layers below take and answer, as numbers. SPEC 2, 2.1 and 8.
 use Prim.Native.Nat.{ℕ, _-_, _%_}
 use mathlib.Core.Bool.{Bool, true, false, not}
 use mathlib.Core.List.{List, [], _∷_}
 use lib.ListN.{getD}
 use lib.Dec.{eqb}
 use Rattle.refusal.specs.Numbers.{numberOf, outcomeNumber}
+use Rattle.refusal.specs.Places.{indexOf, sideOf, outcomePlace, sideNumber, named, indexOr0}
+use Rattle.refusal.specs.declared.Outcome.{Outcome}
 use Rattle.refusal.specs.declared.Error.the-variants.{ZeroModulus, BadRecord, RuleTooLong}
 use Rattle.rules.specs.Value.{truth}
 use Rattle.rules.specs.declared.Resolved.{Resolved}
@@ -44,8 +46,24 @@ optionsOf forced standard utf8 = record { forced = isSet forced; reading = readi
 abbrev pub headOf : Tables → ℕ → List ℕ
 headOf t nodes = t .length ∷ t .count ∷ t .originals ∷ t .translations ∷ truth (t .big) ∷ nodes ∷ (nodes - 1) ∷ []
 
+-- where a load failed: the side, whether an entry is named, and its index
+abbrev pub sideOfLoad : Outcome → ℕ
+sideOfLoad b = sideNumber (sideOf (outcomePlace b))
+
+abbrev pub enteredBy : Outcome → ℕ
+enteredBy b = truth (named (indexOf (outcomePlace b)))
+
+abbrev pub entryOfLoad : Outcome → ℕ
+entryOfLoad b = indexOr0 (indexOf (outcomePlace b))
+
 abbrev pub loadedOf : Loading → Loaded
-loadedOf r = record { number = outcomeNumber (r .outcome); head = headOf (r .tables) (r .nodes) }
+loadedOf r = record {
+  number = outcomeNumber (r .outcome);
+  side = sideOfLoad (r .outcome);
+  entered = enteredBy (r .outcome);
+  entry = entryOfLoad (r .outcome);
+  head = headOf (r .tables) (r .nodes);
+}
 
 -- what such numbers say; a word of a file has 32 bits, and of a larger number the low 32 count
 abbrev pub tablesIn : List ℕ → Tables

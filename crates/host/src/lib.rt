@@ -15,12 +15,16 @@ ghost use Prim.Native.Nat.{_<_, _%_};
 ghost use Rattle.rules.specs.Value.{truth};
 ghost use Rattle.host.specs.Host.{isSet, readingOf, optionsOf, headOf, tablesIn, loadedOf, ownFor, fallback, answerOf, ratingOf, fitsOf, valueOf, writtenOf};
 
-// How a load went: the number, and the head of the record, that of the empty catalog where the number is not 0. A head is the
+// How a load went: the number; where a refused one failed, the side (0 none, 1 original, 2 translation, 3 header, 4 rule), whether (1) an entry
+// is named, and its index; and the head of the record, that of the empty catalog where the number is not 0. A head is the
 // file's length, how many entries it has, where the originals' table and the translations' lie, whether (not 0) the highest byte of a word
 // comes first, how many nodes the rule has, and its root. The rule's nodes are arrays beside it: codes, operand places, values.
 #[repr(C)]
 pub struct Loaded {
     pub number: u32,
+    pub side: u32,
+    pub entered: u32,
+    pub entry: usize,
     pub head: [usize; 7],
 }
 
@@ -133,8 +137,12 @@ pub fn loaded_of(loading: Loading) -> Loaded
 {
     let outcome = loading.outcome;
     let tables = loading.tables;
+    let place = refusal::outcome_place(outcome);
     Loaded {
         number: refusal::outcome_number(outcome),
+        side: refusal::side_number(place),
+        entered: flag_of(refusal::names_entry(place)),
+        entry: refusal::entry_index(place),
         head: head_of(tables, loading.nodes),
     }
 }

@@ -3,7 +3,7 @@ use Prim.Native.Nat.{ℕ, _-_, _<_}
 use mathlib.Core.Path.{_≡_, refl, sym, ap, ap₂, _∙_}
 use mathlib.Core.List.{List}
 use native.Mathlib.Omega.{arith}
-use Rattle.refusal.specs.declared.Error.{Error}
+use Rattle.refusal.specs.declared.Refusal.{Refusal}
 use Rattle.refusal.specs.declared.Outcome.the-variants as outcome
 use Rattle.rules.specs.Range.{rateTree}
 use Rattle.rules.specs.Pool.{Pool}
@@ -36,10 +36,10 @@ module _ (s : List ℕ) {Q : Pool} {r : Loading} (h : Loads (load options s s) Q
   unfolding reportOf
   entries e g = ap (said.Entries (r .tables .count)) (rates g) ∙ by-answer (load options s s) h e
 
-  by-refusal : (a : Answer) → Loads a Q r → {x : Error} → r .outcome ≡ outcome.Refused x → said.Refused x ≡ spec.told a
+  by-refusal : (a : Answer) → Loads a Q r → {x : Refusal} → r .outcome ≡ outcome.Refused x → said.Refused x ≡ spec.told a
   by-refusal (accepted t u) g e = absurd (let p = g .outcome-is in let z : _≡_ {A = ℕ} 0 1 = cc in omega arith)
   by-refusal (refused y) g {x} e = let p = g .outcome-is in let q : x ≡ y = cc in ap said.Refused q
 
-  pub refusal : {x : Error} → r .outcome ≡ outcome.Refused x → said.Refused x ≡ reportOf s
+  pub refusal : {x : Refusal} → r .outcome ≡ outcome.Refused x → said.Refused x ≡ reportOf s
   unfolding reportOf
   refusal e = by-refusal (load options s s) h e

@@ -2,16 +2,18 @@
 // program can run it on files of its own.
 use container::Options;
 use reading_rule::Reading;
-use refusal::Error;
 use refusal::Outcome;
+use refusal::Refusal;
+use refusal::Side;
+use refusal::Where;
 use rules::Rated;
 ghost use mathlib.Core.Path.{_≡_};
 ghost use Rattle.mo_report.specs.Report.{reportOf};
 
-// The count and the range, or why the file is refused.
+// The count and the range, or why and where the file is refused.
 pub enum Said {
     Entries(u32, Rated),
-    Refused(Error),
+    Refused(Refusal),
 }
 
 // What is said of a file: no rule and no UTF-8 is forced, and rules are read the Shipped way.
@@ -64,6 +66,43 @@ fn show_rule(rated: Rated) {
     io::write_all(1, b"\n");
 }
 
+fn show_side(side: Side) {
+    match side {
+        Side::Original => {
+            io::write_all(1, b" original");
+        }
+        Side::Translation => {
+            io::write_all(1, b" translation");
+        }
+        Side::Header => {
+            io::write_all(1, b" header");
+        }
+        Side::Rule => {
+            io::write_all(1, b" rule");
+        }
+    }
+}
+
+// The entry's index and the side, as far as they are named.
+fn show_place(place: Where) {
+    match place {
+        Where::File => {}
+        Where::Forced => show_side(Side::Rule),
+        Where::Entry(i, side) => {
+            io::write_all(1, b" ");
+            io::print_decimal(1, i as u64);
+            show_side(side);
+        }
+    }
+}
+
+fn show_refusal(refusal: Refusal) {
+    io::write_all(1, b"refused ");
+    io::print_decimal(1, wide(refusal::number_of(refusal::error_of(refusal))));
+    show_place(refusal::place_of(refusal));
+    io::write_all(1, b"\n");
+}
+
 fn show(said: Said) {
     match said {
         Said::Entries(count, rated) => {
@@ -72,11 +111,7 @@ fn show(said: Said) {
             io::write_all(1, b"\n");
             show_rule(rated);
         }
-        Said::Refused(e) => {
-            io::write_all(1, b"refused ");
-            io::print_decimal(1, wide(refusal::number_of(e)));
-            io::write_all(1, b"\n");
-        }
+        Said::Refused(refusal) => show_refusal(refusal),
     }
 }
 

@@ -15,6 +15,7 @@ use Rattle.rules_text.specs.Bracketed.{bracketed}
 use Rattle.rules_text.specs.Writing.{writingOf, leftBy}
 use Rattle.rules_text.specs.declared.Writing.the-variants.{Length}
 use Rattle.rules_text.proofs.Writings.{written, front}
+use Rattle.refusal.specs.declared.Where.{Where}
 use Rattle.reading_rule.specs.declared.Reading.{Reading}
 use Rattle.reading_rule.specs.Plurals.{rule, parsed, treeIn}
 use Rattle.reading_bracketed.specs.Bounded.{Bounded}
@@ -97,18 +98,18 @@ module _ (P : Pool) (w : Wide P) where
   unfolding treeOf
   bounded-tree p = bounded-at (suc p) p
 
-  -- what is written of a record's rule into a buffer, read again in a reading that has the rule's operators, is this very rule
+  -- what is written of a record's rule into a buffer, read again in a reading that has the rule's operators, is this very rule, wherever the text stands
   pub written-again :
-      (reading : Reading) (count root n : ℕ) (old : List ℕ) → Knows reading (treeOf P root) → writingOf P count root (length old) ≡ Length n →
-      parsed reading (take n (leftBy (Length n) (bracketed (treeOf P root)) old)) ≡ rule (treeOf P root)
-  written-again reading count root n old k e =
+      (place : Where) (reading : Reading) (count root n : ℕ) (old : List ℕ) → Knows reading (treeOf P root) → writingOf P count root (length old) ≡ Length n →
+      parsed place reading (take n (leftBy (Length n) (bracketed (treeOf P root)) old)) ≡ rule (treeOf P root)
+  written-again place reading count root n old k e =
       let d = written P count root (length old) n e in
-      ap (parsed reading) (front P count root (length old) n old e)
-      ∙ bracketed-parses reading (treeOf P root) (bounded-tree root) k (omega (arith, d .length-is, d .few))
+      ap (parsed place reading) (front P count root (length old) n old e)
+      ∙ bracketed-parses place reading (treeOf P root) (bounded-tree root) k (omega (arith, d .length-is, d .few))
 
   -- a rule that was read in a reading, or the default rule in place of one, written and read again in this reading, is the same rule
   pub loaded-again :
-      (reading : Reading) (s : List ℕ) (count root n : ℕ) (old : List ℕ) → treeOf P root ≡ treeIn (parsed reading s) →
+      (from place : Where) (reading : Reading) (s : List ℕ) (count root n : ℕ) (old : List ℕ) → treeOf P root ≡ treeIn (parsed from reading s) →
       writingOf P count root (length old) ≡ Length n →
-      parsed reading (take n (leftBy (Length n) (bracketed (treeOf P root)) old)) ≡ rule (treeOf P root)
-  loaded-again reading s count root n old q e = written-again reading count root n old (rw q (read-known reading s)) e
+      parsed place reading (take n (leftBy (Length n) (bracketed (treeOf P root)) old)) ≡ rule (treeOf P root)
+  loaded-again from place reading s count root n old q e = written-again place reading count root n old (rw q (read-known from reading s)) e

@@ -7,6 +7,7 @@ use Rattle.text.proofs.Tests.{taken, left}
 use Rattle.text_trim.specs.declared.Set.the-variants.{WhiteSpace}
 use Rattle.rules.specs.Tree.{Tree, tree}
 use Rattle.reading_grammar.specs.Reading.{standard}
+use Rattle.refusal.specs.declared.Where.{Where}
 use Rattle.reading_rule.specs.declared.Reading.{Reading}
 use Rattle.reading_rule.specs.declared.Reading.the-variants.{Shipped, Standard}
 use Rattle.reading_rule.specs.Plurals.{rule, readAs, made, tested, parsed}
@@ -22,28 +23,28 @@ pub bracketed-reads : (reading : Reading) (t : Tree) → Bounded t → Knows rea
 bracketed-reads Shipped t h k = shipped-bracketed t h k
 bracketed-reads Standard t h k = standard-bracketed t h
 
--- in at most 512 bytes it is a rule, and that rule is the tree
+-- in at most 512 bytes it is a rule, wherever it stands, and that rule is the tree
 pub bracketed-parses :
-    (reading : Reading) (t : Tree) → Bounded t → Knows reading t → length (bracketed t) ≤ 512 → parsed reading (bracketed t) ≡ rule t
+    (place : Where) (reading : Reading) (t : Tree) → Bounded t → Knows reading t → length (bracketed t) ≤ 512 → parsed place reading (bracketed t) ≡ rule t
 unfolding parsed tested made
-bracketed-parses reading t h k l =
+bracketed-parses place reading t h k l =
     let e : readAs reading (bracketed t) ≡ tree t = bracketed-reads reading t h k in
-    ap (tested reading) (trim-visible WhiteSpace (seen t))
+    ap (tested place reading) (trim-visible WhiteSpace (seen t))
     ∙ (left _ _ (le-ltb 512 (length (bracketed t)) l)
     ∙ (taken _ _ (ascii-visible (seen t))
-    ∙ ap made e))
+    ∙ ap (made place) e))
 
 -- "any tree of 01's operators": both readings
 pub plain-known : (reading : Reading) (t : Tree) → Plain t → Knows reading t
 plain-known Shipped t p = p
 plain-known Standard t p = tt
 
-pub both-parse : (t : Tree) → Bounded t → Plain t → length (bracketed t) ≤ 512 → (reading : Reading) → parsed reading (bracketed t) ≡ rule t
-both-parse t h p l reading = bracketed-parses reading t h (plain-known reading t p) l
+pub both-parse : (place : Where) (t : Tree) → Bounded t → Plain t → length (bracketed t) ≤ 512 → (reading : Reading) → parsed place reading (bracketed t) ≡ rule t
+both-parse place t h p l reading = bracketed-parses place reading t h (plain-known reading t p) l
 
 -- "For a rule with request b's operators, the Standard reading gives the tree back."
-pub standard-parses : (t : Tree) → Bounded t → length (bracketed t) ≤ 512 → parsed Standard (bracketed t) ≡ rule t
-standard-parses t h l = bracketed-parses Standard t h tt l
+pub standard-parses : (place : Where) (t : Tree) → Bounded t → length (bracketed t) ≤ 512 → parsed place Standard (bracketed t) ≡ rule t
+standard-parses place t h l = bracketed-parses place Standard t h tt l
 
 -- two trees never have one text
 pub bracketed-differs : (s t : Tree) → Bounded s → Bounded t → bracketed s ≡ bracketed t → s ≡ t

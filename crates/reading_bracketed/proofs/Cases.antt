@@ -5,6 +5,8 @@ use mathlib.Core.List.{List, [], _∷_, map}
 use Rattle.text.specs.Bytes.{all, begins}
 use Rattle.text_trim.specs.Trim.{trim, trimStart, trimEnd, edgeAfter, lead, encode}
 use Rattle.text_digits.specs.Digits.{digitsFrom, integer}
+use Rattle.refusal.specs.Places.{at}
+use Rattle.refusal.specs.declared.Where.the-variants.{Forced}
 use Rattle.refusal.specs.declared.Error.the-variants.{PluralParsing}
 use Rattle.rules.specs.Tree.{Tree, var, int, nay, bin, cond, cmp, calc, rem, div, eq, plus, minus, times}
 use Rattle.rules_text.specs.Bracketed.{bracketed, decimal, decimalIn}
@@ -30,10 +32,10 @@ trees =
 
 -- in the Standard reading and in the Shipped one
 abbrev pub read : Tree → Parse × Parse
-read t = (parsed Standard (bracketed t), parsed Shipped (bracketed t))
+read t = (parsed Forced Standard (bracketed t), parsed Forced Shipped (bracketed t))
 
 abbrev pub said : Tree → Parse × Parse
-said t = (rule t, norule PluralParsing)
+said t = (rule t, norule (at Forced PluralParsing))
 
 pub trees-hold : map read trees ≡ map said trees
 unfolding parsed tested made all trim trimStart trimEnd edgeAfter lead encode begins standard shipped parseIn parens level choose readNot indexOf indexFrom endFrom integer

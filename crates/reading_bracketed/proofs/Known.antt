@@ -10,6 +10,8 @@ use Rattle.text_trim.specs.Trim.{trim, six, whiteSpace}
 use Rattle.text_digits.specs.declared.Number.{Number}
 use Rattle.text_digits.specs.declared.Number.the-variants.{Whole, NoNumber}
 use Rattle.text_digits.specs.Digits.{integer}
+use Rattle.refusal.specs.Places.{at}
+use Rattle.refusal.specs.declared.Where.{Where}
 use Rattle.refusal.specs.declared.Error.the-variants.{PluralParsing, RuleTooLong}
 use Rattle.rules.specs.Tree.{Tree, var, int, nay, bin, cond, Op, Reading, tree, none}
 use Rattle.reading_scan.specs.Scan.{indexOf, endFrom}
@@ -104,21 +106,21 @@ unfolding shipped
 shipped-plain s = only-in (suc (length s)) s
 
 -- the default rule, which stands for a refused one, has them too
-plain-made : {r : Reading} → Only r → Plain (treeIn (made r))
+plain-made : (place : Where) {r : Reading} → Only r → Plain (treeIn (made place r))
 unfolding made
-plain-made (plain t h) = h
-plain-made nothing = (tt, tt, tt)
+plain-made place (plain t h) = h
+plain-made place nothing = (tt, tt, tt)
 
 -- what a text gives in a reading, that reading has
-pub read-known : (reading : choice.Reading) (s : List ℕ) → Knows reading (treeIn (parsed reading s))
+pub read-known : (place : Where) (reading : choice.Reading) (s : List ℕ) → Knows reading (treeIn (parsed place reading s))
 unfolding parsed tested
-read-known Standard s = tt
-read-known Shipped s = go (ltb 512 (length t)) (all isAscii t)
+read-known place Standard s = tt
+read-known place Shipped s = go (ltb 512 (length t)) (all isAscii t)
   where
     t : List ℕ
     t = trim whiteSpace s
 
-    go : (p q : Bool) → Plain (treeIn (elim p [ true ↦ norule RuleTooLong | false ↦ elim q [ true ↦ made (shipped t) | false ↦ norule PluralParsing ] ]))
+    go : (p q : Bool) → Plain (treeIn (elim p [ true ↦ norule (at place RuleTooLong) | false ↦ elim q [ true ↦ made place (shipped t) | false ↦ norule (at place PluralParsing) ] ]))
     go true q = (tt, tt, tt)
-    go false true = plain-made (shipped-plain t)
+    go false true = plain-made place (shipped-plain t)
     go false false = (tt, tt, tt)

@@ -5,6 +5,7 @@ use mathlib.Core.List.{List, [], _∷_, map}
 use Rattle.text.specs.Bytes.{bytes, all, begins}
 use Rattle.text_trim.specs.Trim.{whiteSpace, trim, trimStart, trimEnd, edgeAfter, lead, encode}
 use Rattle.refusal.specs.Numbers.{numberOf}
+use Rattle.refusal.specs.declared.Where.the-variants.{Forced}
 use Rattle.refusal.specs.declared.Error.the-variants as error
 use Rattle.rules.specs.declared.Value.{Value}
 use Rattle.rules.specs.declared.Value.the-variants.{Is, ZeroModulus}
@@ -49,7 +50,7 @@ values =
     ∷ (bytes "n//2", 5, number (numberOf error.PluralParsing))
     ∷ []
 
-pub values-hold : map (λ (r : List ℕ × ℕ × Answer). answer (parsed Standard (r .0)) (r .1)) values ≡ map (λ (r : List ℕ × ℕ × Answer). r .2) values
+pub values-hold : map (λ (r : List ℕ × ℕ × Answer). answer (parsed Forced Standard (r .0)) (r .1)) values ≡ map (λ (r : List ℕ × ℕ × Answer). r .2) values
 unfolding parsed tested made trim trimStart trimEnd edgeAfter lead encode begins all standard evalTree binary calculated negated chosen truthV
 values-hold = refl
 
@@ -77,6 +78,6 @@ ranges =
     ∷ (bytes "n%(n+1)", Unrated)
     ∷ []
 
-pub ranges-hold : map (λ (r : List ℕ × Rating). rangeOf (parsed Standard (r .0))) ranges ≡ map (λ (r : List ℕ × Rating). r .1) ranges
+pub ranges-hold : map (λ (r : List ℕ × Rating). rangeOf (parsed Forced Standard (r .0))) ranges ≡ map (λ (r : List ℕ × Rating). r .1) ranges
 unfolding parsed tested made trim trimStart trimEnd edgeAfter lead encode begins all standard rateTree kept opRange binRange condRange notRange
 ranges-hold = refl

@@ -15,6 +15,7 @@ use Rattle.reading_scan.specs.Scan.{indexFrom, indexOf, endFrom}
 use Rattle.reading_shipped.specs.Shipped.{shipped, parseIn, parens, level, choose, readNot}
 use Rattle.refusal.specs.Numbers.{numberOf}
 use Rattle.refusal.specs.declared.Error.the-variants as error
+use Rattle.refusal.specs.declared.Where.the-variants.{Forced}
 use Rattle.reading_rule.specs.declared.Reading.the-variants.{Shipped, Standard}
 use Rattle.reading_rule.specs.Plurals.{Parse, rule, norule, made, tested, parsed}
 
@@ -29,7 +30,7 @@ valued ZeroModulus = number (numberOf error.ZeroModulus)
 
 abbrev pub answer : Parse → ℕ → Answer
 answer (rule t) n = valued (evalTree t n)
-answer (norule e) n = number (numberOf e)
+answer (norule r) n = number (numberOf (r .error))
 
 pub record Row : Type 0 where
   pub text : List ℕ
@@ -74,7 +75,7 @@ abbrev pub said : Row → Answer × Answer
 said r = (r .in-shipped, r .in-standard)
 
 abbrev pub computed : Row → Answer × Answer
-computed r = (answer (parsed Shipped (r .text)) (r .count), answer (parsed Standard (r .text)) (r .count))
+computed r = (answer (parsed Forced Shipped (r .text)) (r .count), answer (parsed Forced Standard (r .text)) (r .count))
 
 pub rows-hold : map computed rows ≡ map said rows
 unfolding parsed tested made all trim trimStart trimEnd edgeAfter lead encode begins standard shipped parseIn parens level choose readNot indexOf indexFrom endFrom integer

@@ -11,7 +11,9 @@ use borrow.Author.Tests.{ltb-false, le-ltb}
 use Rattle.text.specs.Bytes.{all}
 use Rattle.text.proofs.Tests.{taken, left, by-test}
 use Rattle.text_trim.specs.Trim.{trim, whiteSpace}
-use Rattle.refusal.specs.declared.Error.{Error}
+use Rattle.refusal.specs.Places.{at}
+use Rattle.refusal.specs.declared.Where.{Where}
+use Rattle.refusal.specs.declared.Refusal.{Refusal}
 use Rattle.refusal.specs.declared.Error.the-variants.{PluralParsing, RuleTooLong}
 use Rattle.rules.specs.Tree as tree
 use Rattle.rules.specs.Tree.{Tree}
@@ -26,31 +28,31 @@ pub record IsRule (s : List ℕ) (t : Tree) : Type 0 where
   pub ascii : all isAscii s ≡ true
   pub means : Means s t
 
-never : {e : Error} {t : Tree} → norule e ≡ rule t → ⊥
+never : {e : Refusal} {t : Tree} → norule e ≡ rule t → ⊥
 never e = let z : _≡_ {A = ℕ} 0 1 = cc in omega arith
 
-made-tree : (x : tree.Reading) {t : Tree} → made x ≡ rule t → x ≡ tree.tree t
+made-tree : (w : Where) (x : tree.Reading) {t : Tree} → made w x ≡ rule t → x ≡ tree.tree t
 unfolding made
-made-tree (tree.tree u) {t} e = let z : u ≡ t = cc in ap tree.tree z
-made-tree tree.none e = absurd (never e)
+made-tree w (tree.tree u) {t} e = let z : u ≡ t = cc in ap tree.tree z
+made-tree w tree.none e = absurd (never e)
 
-module _ (s : List ℕ) (t : Tree) where
-  to-rule : tested Standard s ≡ rule t → IsRule s t
+module _ (place : Where) (s : List ℕ) (t : Tree) where
+  to-rule : tested place Standard s ≡ rule t → IsRule s t
   unfolding tested
   to-rule e =
-      by-test (IsRule s t) (ltb 512 (length s)) (λ long. absurd (never (sym (taken (norule RuleTooLong) (elim (all isAscii s) [ true ↦ made (standard s) | false ↦ norule PluralParsing ]) long) ∙ e)))
-      (λ short. let r = sym (left (norule RuleTooLong) (elim (all isAscii s) [ true ↦ made (standard s) | false ↦ norule PluralParsing ]) short) ∙ e in
+      by-test (IsRule s t) (ltb 512 (length s)) (λ long. absurd (never (sym (taken (norule (at place RuleTooLong)) (elim (all isAscii s) [ true ↦ made place (standard s) | false ↦ norule (at place PluralParsing) ]) long) ∙ e)))
+      (λ short. let r = sym (left (norule (at place RuleTooLong)) (elim (all isAscii s) [ true ↦ made place (standard s) | false ↦ norule (at place PluralParsing) ]) short) ∙ e in
       by-test (IsRule s t) (all isAscii s)
-      (λ a. record { short = ltb-false 512 (length s) short; ascii = a; means = agrees-text s t .0 (made-tree (standard s) (sym (taken (made (standard s)) (norule PluralParsing) a) ∙ r)) })
-      (λ a. absurd (never (sym (left (made (standard s)) (norule PluralParsing) a) ∙ r))))
+      (λ a. record { short = ltb-false 512 (length s) short; ascii = a; means = agrees-text s t .0 (made-tree place (standard s) (sym (taken (made place (standard s)) (norule (at place PluralParsing)) a) ∙ r)) })
+      (λ a. absurd (never (sym (left (made place (standard s)) (norule (at place PluralParsing)) a) ∙ r))))
 
-  from-rule : IsRule s t → tested Standard s ≡ rule t
+  from-rule : IsRule s t → tested place Standard s ≡ rule t
   unfolding tested made
   from-rule w =
-      left (norule RuleTooLong) (elim (all isAscii s) [ true ↦ made (standard s) | false ↦ norule PluralParsing ]) (le-ltb 512 (length s) (w .short))
-      ∙ taken (made (standard s)) (norule PluralParsing) (w .ascii)
-      ∙ ap made (agrees-text s t .1 (w .means))
+      left (norule (at place RuleTooLong)) (elim (all isAscii s) [ true ↦ made place (standard s) | false ↦ norule (at place PluralParsing) ]) (le-ltb 512 (length s) (w .short))
+      ∙ taken (made place (standard s)) (norule (at place PluralParsing)) (w .ascii)
+      ∙ ap (made place) (agrees-text s t .1 (w .means))
 
-pub standard-exactly : (s : List ℕ) (t : Tree) → (parsed Standard s ≡ rule t) ↔ IsRule (trim whiteSpace s) t
+pub standard-exactly : (place : Where) (s : List ℕ) (t : Tree) → (parsed place Standard s ≡ rule t) ↔ IsRule (trim whiteSpace s) t
 unfolding parsed
-standard-exactly s t = (to-rule (trim whiteSpace s) t, from-rule (trim whiteSpace s) t)
+standard-exactly place s t = (to-rule place (trim whiteSpace s) t, from-rule place (trim whiteSpace s) t)

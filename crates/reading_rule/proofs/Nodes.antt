@@ -17,6 +17,7 @@ use Rattle.reading_grammar.proofs.Size.{standard-nodes}
 use Rattle.reading_shipped.proofs.Size.{shipped-nodes}
 use Rattle.reading_rule.specs.declared.Reading.{Reading}
 use Rattle.reading_rule.specs.declared.Reading.the-variants.{Shipped, Standard}
+use Rattle.refusal.specs.declared.Where.{Where}
 use Rattle.reading_rule.specs.Plurals.{Parse, readAs, made, isAscii, tested, parsed, treeIn}
 
 -- in both readings a text of m bytes that is read makes a tree of at most m nodes
@@ -27,22 +28,22 @@ nodes-at-most-bytes Standard s t e = standard-nodes s t e
 abbrev Few : Parse → Type 0
 Few p = size (treeIn p) ≤ 512
 
-few-made : (o : tree.Reading) {n : ℕ} → n ≤ 512 → ((t : Tree) → o ≡ tree.tree t → size t ≤ n) → Few (made o)
+few-made : (place : Where) (o : tree.Reading) {n : ℕ} → n ≤ 512 → ((t : Tree) → o ≡ tree.tree t → size t ≤ n) → Few (made place o)
 unfolding made size
-few-made (tree.tree t) h w = omega (arith, w t refl)
-few-made tree.none h w = omega arith
+few-made place (tree.tree t) h w = omega (arith, w t refl)
+few-made place tree.none h w = omega arith
 
-few-tested : (reading : Reading) (s : List ℕ) → Few (tested reading s)
+few-tested : (place : Where) (reading : Reading) (s : List ℕ) → Few (tested place reading s)
 unfolding tested size
-few-tested reading s =
-    by-test (Few (tested reading s)) (ltb 512 (length s))
+few-tested place reading s =
+    by-test (Few (tested place reading s)) (ltb 512 (length s))
     (λ e. rw (tested, e) (omega arith))
     (λ e.
-    by-test (Few (tested reading s)) (all isAscii s)
-    (λ f. rw (tested, e, f) (few-made (readAs reading s) (ltb-false 512 (length s) e) (nodes-at-most-bytes reading s)))
+    by-test (Few (tested place reading s)) (all isAscii s)
+    (λ f. rw (tested, e, f) (few-made place (readAs reading s) (ltb-false 512 (length s) e) (nodes-at-most-bytes reading s)))
     (λ f. rw (tested, e, f) (omega arith)))
 
 -- so the rule of a text, the default where it is refused, has at most 512
-pub at-most-512-nodes : (reading : Reading) (s : List ℕ) → size (treeIn (parsed reading s)) ≤ 512
+pub at-most-512-nodes : (place : Where) (reading : Reading) (s : List ℕ) → size (treeIn (parsed place reading s)) ≤ 512
 unfolding parsed
-at-most-512-nodes reading s = few-tested reading (trim whiteSpace s)
+at-most-512-nodes place reading s = few-tested place reading (trim whiteSpace s)

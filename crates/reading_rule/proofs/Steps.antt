@@ -27,6 +27,8 @@ use Rattle.reading_shipped.specs.Shipped.{shipped}
 use Rattle.reading_rule.specs.declared.Reading.{Reading}
 use Rattle.reading_rule.specs.declared.Reading.the-variants.{Shipped, Standard}
 use Rattle.reading_rule.specs.declared.Parsed.{Parsed}
+use Rattle.refusal.specs.Places.{at}
+use Rattle.refusal.specs.declared.Where.{Where}
 use Rattle.refusal.specs.declared.Error.the-variants.{PluralParsing, RuleTooLong}
 use Rattle.refusal.specs.declared.Outcome.the-variants as outcome
 use Rattle.reading_rule.specs.Plurals.{Parse, rule, norule, readAs, made, isAscii, tested, parsed, Parses}
@@ -62,13 +64,13 @@ pub answered : {o : tree.Reading} {s : List ℕ} {P Q : Pool} {q r : Nodes} → 
 answered h e = rw e at h
 
 -- no reading was found
-pub none-made : (o : tree.Reading) {s : List ℕ} {P Q : Pool} → Answered o s P Q NoReading → made o ≡ norule PluralParsing
+pub none-made : (place : Where) (o : tree.Reading) {s : List ℕ} {P Q : Pool} → Answered o s P Q NoReading → made place o ≡ norule (at place PluralParsing)
 unfolding made
-none-made (tree.tree t) a =
+none-made place (tree.tree t) a =
     let e : NoReading ≡ Read (size t) = a .read .answer in
     let z : _≡_ {A = ℕ} 0 1 = cc in
     absurd (omega arith)
-none-made tree.none a = refl
+none-made place tree.none a = refl
 
 -- a tree was found in m bytes: k is its size, and Q the arrays
 pub record Found (o : tree.Reading) (m k : ℕ) (P Q : Pool) : Type 0 where
@@ -107,11 +109,11 @@ module _ {o : tree.Reading} {m k : ℕ} {P Q : Pool} (f : Found o m k P Q) (b : 
   pub has-room : packedSize (treeOf Q (k - 1)) ≤ 512
   has-room = rw tree-in (omega (arith, no-more (f .is-tree), few))
 
-  pub held : {R : Pool} {n : ℕ} → R ≡ packed (treeOf Q (k - 1)) → n ≡ packedSize (treeOf Q (k - 1))
-      → Parses (made o) R (record { outcome = outcome.Loaded; nodes = n })
+  pub held : (place : Where) {R : Pool} {n : ℕ} → R ≡ packed (treeOf Q (k - 1)) → n ≡ packedSize (treeOf Q (k - 1))
+      → Parses (made place o) R (record { outcome = outcome.Loaded; nodes = n })
   unfolding made
-  held e d =
-      let i : made o ≡ rule (f .is-tree) = rw (f .is) in
+  held place e d =
+      let i : made place o ≡ rule (f .is-tree) = rw (f .is) in
       parses i (record { outcome = refl; nodes = d ∙ ap packedSize tree-in; stored = e ∙ ap packed tree-in })
 
 not-false : (b : Bool) → not b ≡ true → b ≡ false
@@ -123,19 +125,19 @@ not-true true e = refl
 not-true false e = sym e
 
 -- the tests, of the trimmed text t: a says whether all its bytes are below 128
-module _ (reading : Reading) (s : List ℕ) {t : List ℕ} (e : t ≡ trim whiteSpace s) where
-  of-trimmed : parsed reading s ≡ tested reading t
+module _ (place : Where) (reading : Reading) (s : List ℕ) {t : List ℕ} (e : t ≡ trim whiteSpace s) where
+  of-trimmed : parsed place reading s ≡ tested place reading t
   unfolding parsed
-  of-trimmed = ap (tested reading) (sym e)
+  of-trimmed = ap (tested place reading) (sym e)
 
-  pub long-refused : ltb 512 (length t) ≡ true → parsed reading s ≡ norule RuleTooLong
+  pub long-refused : ltb 512 (length t) ≡ true → parsed place reading s ≡ norule (at place RuleTooLong)
   unfolding tested
   long-refused h = of-trimmed ∙ rw (tested, h)
 
-  pub foreign-refused : ltb 512 (length t) ≡ false → {a : Bool} → a ≡ all isAscii t → not a ≡ true → parsed reading s ≡ norule PluralParsing
+  pub foreign-refused : ltb 512 (length t) ≡ false → {a : Bool} → a ≡ all isAscii t → not a ≡ true → parsed place reading s ≡ norule (at place PluralParsing)
   unfolding tested
   foreign-refused h {a} i f = of-trimmed ∙ rw (tested, h, sym i ∙ not-false a f)
 
-  pub passed : ltb 512 (length t) ≡ false → {a : Bool} → a ≡ all isAscii t → not a ≡ false → parsed reading s ≡ made (readAs reading t)
+  pub passed : ltb 512 (length t) ≡ false → {a : Bool} → a ≡ all isAscii t → not a ≡ false → parsed place reading s ≡ made place (readAs reading t)
   unfolding tested
   passed h {a} i f = of-trimmed ∙ rw (tested, h, sym i ∙ not-true a f)

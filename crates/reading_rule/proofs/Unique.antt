@@ -30,7 +30,7 @@ pub refuse-one : OneLeft 3 refuse-kinds.ps refuse-kinds.r refuse.Post refuse-lef
 refuse-one κs a u v x y p q = parses-one _ u v p q
 
 abbrev parse-left : (κs : Lfts 4) → AtExit (endedOf 4 parse-kinds.ps parse-kinds.r) κs → Pool
-parse-left κs x = pool (now (x .1 .1 .0)) (now (x .1 .1 .1 .0)) (now (x .1 .1 .1 .1 .0))
+parse-left κs x = pool (now (x .1 .1 .1 .0)) (now (x .1 .1 .1 .1 .0)) (now (x .1 .1 .1 .1 .1 .0))
 
 pub parse-one : OneLeft 4 parse-kinds.ps parse-kinds.r parse.Post parse-left
 parse-one κs a u v x y p q = parses-one _ u v p q

@@ -8,7 +8,9 @@ use lib.ListN.{length}
 use lib.Dec.{ltb}
 use Rattle.text.specs.Bytes.{all}
 use Rattle.text_trim.specs.Trim.{trim, whiteSpace}
-use Rattle.refusal.specs.declared.Error.{Error}
+use Rattle.refusal.specs.Places.{at}
+use Rattle.refusal.specs.declared.Where.{Where}
+use Rattle.refusal.specs.declared.Refusal.{Refusal}
 use Rattle.refusal.specs.declared.Error.the-variants.{PluralParsing, RuleTooLong}
 use Rattle.refusal.specs.declared.Outcome.{Outcome}
 use Rattle.refusal.specs.declared.Outcome.the-variants as outcome
@@ -22,33 +24,34 @@ use Rattle.reading_rule.specs.declared.Reading.{Reading}
 use Rattle.reading_rule.specs.declared.Reading.the-variants.{Shipped, Standard}
 use Rattle.reading_rule.specs.declared.Parsed.{Parsed}
 
--- a rule, or why there is none
+-- a rule, or why and where there is none
 pub data Parse : Type 0 where
   rule : Tree → Parse
-  norule : Error → Parse
+  norule : Refusal → Parse
 
 -- what the chosen reading makes of a text
 abbrev pub readAs : Reading → List ℕ → tree.Reading
 readAs Shipped s = shipped s
 readAs Standard s = standard s
 
-unfoldable pub made : tree.Reading → Parse
-made (tree.tree t) = rule t
-made tree.none = norule PluralParsing
+unfoldable pub made : Where → tree.Reading → Parse
+made place (tree.tree t) = rule t
+made place tree.none = norule (at place PluralParsing)
 
 abbrev pub isAscii : ℕ → Bool
 isAscii b = ltb b 128
 
 -- a trimmed text: its length comes first, then its bytes, then its reading
-unfoldable pub tested : Reading → List ℕ → Parse
-tested reading s =
+unfoldable pub tested : Where → Reading → List ℕ → Parse
+tested place reading s =
     elim (ltb 512 (length s)) [
-      | true ↦ norule RuleTooLong
-      | false ↦ elim (all isAscii s) [ true ↦ made (readAs reading s) | false ↦ norule PluralParsing ]
+      | true ↦ norule (at place RuleTooLong)
+      | false ↦ elim (all isAscii s) [ true ↦ made place (readAs reading s) | false ↦ norule (at place PluralParsing) ]
     ]
 
-unfoldable pub parsed : Reading → List ℕ → Parse
-parsed reading s = tested reading (trim whiteSpace s)
+-- of a text at a place
+unfoldable pub parsed : Where → Reading → List ℕ → Parse
+parsed place reading s = tested place reading (trim whiteSpace s)
 
 -- the default rule stands for a refused one
 abbrev pub treeIn : Parse → Tree

@@ -2,6 +2,8 @@
 // `Ast::parse`, as its callers use it; the packed nodes go into arrays that the caller lends.
 use refusal::Error;
 use refusal::Outcome;
+use refusal::Refusal;
+use refusal::Where;
 ghost use mathlib.Core.Path.{_≡_};
 ghost use Prim.Native.Nat.{_≤_};
 ghost use lib.ListN.{length};
@@ -24,16 +26,16 @@ pub struct Parsed {
 
 // The default rule, beside a refusal.
 pub fn refuse(
-    e: Error,
+    refusal: Refusal,
     codes: &mut [u8; 512],
     places: &mut [u16; 1024],
     values: &mut [u64; 512],
 ) -> Parsed
-    ensures { λ r. ⌜ Parses (norule e) (pool (now (codes .exit)) (now (places .exit)) (now (values .exit))) r ⌝ }
+    ensures { λ r. ⌜ Parses (norule refusal) (pool (now (codes .exit)) (now (places .exit)) (now (values .exit))) r ⌝ }
 {
     let nodes = rules::put_default(codes, places, values);
     Parsed {
-        outcome: Outcome::Refused(e),
+        outcome: Outcome::Refused(refusal),
         nodes,
     }
 }
@@ -74,20 +76,26 @@ fn read(
 // The rule of a text that passed the tests: its reader leaves a node for each n, integer and operator, and they are packed.
 fn rule_of(
     s: &[u8],
+    place: Where,
     reading: Reading,
     codes: &mut [u8; 512],
     places: &mut [u16; 1024],
     values: &mut [u64; 512],
 ) -> Parsed
     requires { ⌜ length (now s) ≤ 512 ⌝ }
-    ensures { λ r. ⌜ Parses (made (readAs reading (now (s .entry)))) (pool (now (codes .exit)) (now (places .exit)) (now (values .exit))) r ⌝ }
+    ensures { λ r. ⌜ Parses (made place (readAs reading (now (s .entry)))) (pool (now (codes .exit)) (now (places .exit)) (now (values .exit))) r ⌝ }
 {
     let mut heads = [0u8; 512];
     let mut fields = [0u16; 1024];
     let mut ints = [0u64; 512];
     let read = read(s, reading, &mut heads, &mut fields, &mut ints);
     let rules::Nodes::Read(count) = read else {
-        return refuse(Error::PluralParsing, codes, places, values); // no reading
+        return refuse(
+            refusal::at(place, Error::PluralParsing),
+            codes,
+            places,
+            values,
+        ); // no reading
     };
     let nodes = rules_pack::pack(&heads, &fields, &ints, count - 1, codes, places, values);
     Parsed {
@@ -96,24 +104,36 @@ fn rule_of(
     }
 }
 
-// The rule of a text, trimmed of white space, which may be wide. One of over 512 bytes is refused as too long, whatever its bytes.
+// The rule of a text, trimmed of white space, which may be wide. One of over 512 bytes is refused as too long, whatever its bytes. Where
+// the text stands is for the refusal.
 pub fn parse(
     text: &[u8],
+    place: Where,
     reading: Reading,
     codes: &mut [u8; 512],
     places: &mut [u16; 1024],
     values: &mut [u64; 512],
 ) -> Parsed
-    ensures { λ r. ⌜ Parses (parsed reading (now (text .entry))) (pool (now (codes .exit)) (now (places .exit)) (now (values .exit))) r ⌝ }
+    ensures { λ r. ⌜ Parses (parsed place reading (now (text .entry))) (pool (now (codes .exit)) (now (places .exit)) (now (values .exit))) r ⌝ }
 {
     let s = text_trim::trim(text, text_trim::Set::WhiteSpace);
     let long = rules::MOST < s.len();
     let foreign = !ascii(s);
     if long {
-        return refuse(Error::RuleTooLong, codes, places, values);
+        return refuse(
+            refusal::at(place, Error::RuleTooLong),
+            codes,
+            places,
+            values,
+        );
     }
     if foreign {
-        return refuse(Error::PluralParsing, codes, places, values); // a byte of 128 or more
+        return refuse(
+            refusal::at(place, Error::PluralParsing),
+            codes,
+            places,
+            values,
+        ); // a byte of 128 or more
     }
-    rule_of(s, reading, codes, places, values)
+    rule_of(s, place, reading, codes, places, values)
 }

@@ -21,4 +21,4 @@ numberOf BadSpan = 17
 
 abbrev pub outcomeNumber : Outcome → ℕ
 outcomeNumber Loaded = 0
-outcomeNumber (Refused e) = numberOf e
+outcomeNumber (Refused r) = numberOf (r .error)

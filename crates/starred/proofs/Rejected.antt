@@ -12,6 +12,7 @@ use Rattle.text.specs.Bytes.{front, all, bytes, same, begins, first}
 use Rattle.text.specs.Cut.{cut, every}
 use Rattle.text_trim.specs.Trim.{trim, trimStart, trimEnd, edgeAfter, lead, encode}
 use Rattle.text_utf8.specs.Utf8.{utf8, rest}
+use Rattle.refusal.specs.declared.Where.the-variants.{Forced}
 use Rattle.refusal.specs.Numbers.{numberOf}
 use Rattle.refusal.specs.declared.Error.the-variants.{BadRecord}
 use Rattle.rules.specs.Tree.{var, int, bin, rem, defaultTree}
@@ -89,7 +90,7 @@ unfolding lookup.plural lastWith lastIn entry word string idStart idEnd front sa
 against-form-0-always r promise = promise
 
 -- a reading that calls every rule n
-pub against-every-rule-n : {Q : Pool} (r : Parsed) → Parses (parsed Shipped (bytes "+7")) Q r → Q ≡ packed (int 7)
+pub against-every-rule-n : {Q : Pool} (r : Parsed) → Parses (parsed Forced Shipped (bytes "+7")) Q r → Q ≡ packed (int 7)
 unfolding parsed tested made all trim trimStart trimEnd edgeAfter lead encode begins shipped parseIn parens level choose readNot indexOf indexFrom endFrom integer digitsFrom
 against-every-rule-n r promise = promise .stored
 

@@ -9,6 +9,7 @@ use Rattle.text.specs.Bytes.{front, all, same, begins, first}
 use Rattle.text.specs.Cut.{cut, every}
 use Rattle.text_trim.specs.Trim.{trim, trimStart, trimEnd, edgeAfter, lead, encode}
 use Rattle.text_utf8.specs.Utf8.{utf8, rest}
+use Rattle.refusal.specs.declared.Where.the-variants.{Forced}
 use Rattle.refusal.specs.Numbers.{numberOf}
 use Rattle.refusal.specs.declared.Error.the-variants as error
 use Rattle.rules.specs.Tree.{Tree}
@@ -52,7 +53,7 @@ plain = record { forced = false; reading = Shipped; utf8 = false }
 
 abbrev loaded : Answer → Said
 loaded (accepted t r) = number 0
-loaded (refused e) = number (numberOf e)
+loaded (refused r) = number (numberOf (r .error))
 
 abbrev texted : ℕ → Text → Said
 texted x (Segment start len) = part start len
@@ -61,12 +62,12 @@ texted x PluralId = own-plural x
 
 abbrev looked : List ℕ → List ℕ → Answer → Said
 looked s key (accepted t r) = let a = lookup.singular s t (lastWith s t key) in texted (lookup.number a) (singularText a)
-looked s key (refused e) = number (numberOf e)
+looked s key (refused r) = number (numberOf (r .error))
 
 abbrev counted : List ℕ → List ℕ → ℕ → Answer → Said
 counted s key n (accepted t r) =
     let a = lookup.plural s t (resolvedOf (packed r) (packedSize r) (packedSize r - 1) n) (lastWith s t key) in texted (lookup.number a) (pluralText n a)
-counted s key n (refused e) = number (numberOf e)
+counted s key n (refused r) = number (numberOf (r .error))
 
 abbrev valued : Value → Said
 valued (Is x) = form x
@@ -82,17 +83,17 @@ answered false = no
 
 abbrev read : Parse → (Tree → Said) → Said
 read (rule t) f = f t
-read (norule e) f = number (numberOf e)
+read (norule r) f = number (numberOf (r .error))
 
 -- what the definitions say
 abbrev pub computed : Case → Said
 computed (loading s) = loaded (load plain [] s)
 computed (looking s key) = looked s key (load plain [] s)
 computed (counting s key m) = counted s key m (load plain [] s)
-computed (reading r s) = read (parsed r s) tree
-computed (valuing r s n) = read (parsed r s) (λ t. valued (evalTree t n))
-computed (ranging s) = read (parsed Standard s) (λ t. ranged (rateTree t))
-computed (fitting s k) = read (parsed Standard s) (λ t. answered (fitsRange (rateTree t) k))
+computed (reading r s) = read (parsed Forced r s) tree
+computed (valuing r s n) = read (parsed Forced r s) (λ t. valued (evalTree t n))
+computed (ranging s) = read (parsed Forced Standard s) (λ t. ranged (rateTree t))
+computed (fitting s k) = read (parsed Forced Standard s) (λ t. answered (fitsRange (rateTree t) k))
 
 -- is what document 01 says
 pub starred-holds : map (λ r. computed (r .0)) starred ≡ map (λ r. r .1) starred

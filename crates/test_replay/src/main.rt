@@ -6,6 +6,7 @@ use container::Record;
 use lookup::Reason;
 use lookup::Text;
 use reading_rule::Reading;
+use refusal::Where;
 use rules::Resolved;
 ghost use Prim.Native.Nat.{_<_};
 
@@ -287,6 +288,7 @@ fn rule_agrees(told: &[u8]) -> bool {
     let mut values = [0u64; 512];
     let parsed = reading_rule::parse(
         first(texts, len),
+        Where::Forced,
         reading_of(byte(told, 2)),
         &mut codes,
         &mut places,

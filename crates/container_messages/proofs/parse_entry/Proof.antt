@@ -1,3 +1,4 @@
+use mathlib.Core.Path.{_∙_}
 use Rattle.container_messages.proofs.Entries.{read-refused, read-named, read-empty}
 use borrow.Author.Needs.{needs}
 use Rattle.container_messages.proofs.parse_entry.Statement.{statement}
@@ -14,6 +15,9 @@ original-at-requires c κs = search needs
 
 enum-known-original : tie.Need-enum-known-original
 enum-known-original c = search needs
+
+refused-requires : tie.Need-refused-requires
+refused-requires c κs = search needs
 
 enum-told : tie.Need-enum-told
 enum-told c = search needs
@@ -34,7 +38,7 @@ header-of-requires : tie.Need-header-of-requires
 header-of-requires c κs = search needs
 
 returns : tie.Need-returns
-returns c = read-refused _ _ _ (c .before .before .before .original-at .ensures) (c .before .original .given .1)
+returns c = c .refused .ensures ∙ read-refused _ _ _ (c .before .before .before .before .original-at .ensures) (c .before .before .original .given .1)
 
 returns-2 : tie.Need-returns-2
 returns-2 c = read-named _ _ _ (c .before .before .before .before .original-at .ensures) (c .before .before .enum-told .given .1) (c .before .translation-at .ensures) (c .message .ensures)
@@ -48,6 +52,7 @@ parse-entry-spec =
     (tie.spec
     original-at-requires
     enum-known-original
+    refused-requires
     enum-told
     translation-at-requires
     message-requires

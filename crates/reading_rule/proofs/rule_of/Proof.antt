@@ -19,11 +19,14 @@ enum-known-read c = search needs
 enum-told : tie.Need-enum-told
 enum-told c = search needs
 
+at-requires : tie.Need-at-requires
+at-requires c κs = search needs
+
 refuse-requires : tie.Need-refuse-requires
 refuse-requires c κs = search needs
 
 returns : tie.Need-returns
-returns c = parses (none-made _ (answered (c .before .before .before .before .before .before .read .ensures) (c .before .before .before .before .enum-told .given .1))) (c .refuse .ensures)
+returns c = parses (none-made (c .before .before .before .before .before .before .before .before .before .before .before .before .args .place) _ (answered (c .before .before .before .before .before .before .before .read .ensures) (c .before .before .before .before .before .enum-told .given .1))) (rw (c .before .before .before .before .at .ensures) at (c .refuse .ensures))
 
 sub-pack : tie.Need-sub-pack
 sub-pack c = let s : tie.Start = c .before .before .before .before .before .before .before .before .before .before .before in some-nodes (found _ (answered (c .before .before .before .before .before .before .read .ensures) (c .before .before .before .before .read2 .given .1))) blank-is (s .pre)
@@ -32,7 +35,7 @@ pack-requires : tie.Need-pack-requires
 pack-requires c κs = let s : tie.Start = c .before .before .before .before .before .before .before .before .before .before .before .before .before .before in let f = found _ (answered (c .before .before .before .before .before .before .before .before .before .read .ensures) (c .before .before .before .before .before .before .before .read2 .given .1)) in (can-pack f blank-is (s .pre), has-room f blank-is (s .pre))
 
 returns-2 : tie.Need-returns-2
-returns-2 c = let s : tie.Start = c .before .before .before .before .before .before .before .before .before .before .before .before .before .before .before in held (found _ (answered (c .before .before .before .before .before .before .before .before .before .before .read .ensures) (c .before .before .before .before .before .before .before .before .read2 .given .1))) blank-is (s .pre) (c .pack .ensures .0) (c .pack .ensures .1)
+returns-2 c = let s : tie.Start = c .before .before .before .before .before .before .before .before .before .before .before .before .before .before .before in held (found _ (answered (c .before .before .before .before .before .before .before .before .before .before .read .ensures) (c .before .before .before .before .before .before .before .before .read2 .given .1))) blank-is (s .pre) (s .args .place) (c .pack .ensures .0) (c .pack .ensures .1)
 
 pub rule-of-spec : {M : Type 1} → statement M
 rule-of-spec =
@@ -41,6 +44,7 @@ rule-of-spec =
     read-requires
     enum-known-read
     enum-told
+    at-requires
     refuse-requires
     returns
     sub-pack
