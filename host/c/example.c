@@ -17,6 +17,19 @@ static void print_count(gr_text t, uint64_t n)
     putchar('\n');
 }
 
+/* Why a load was refused, and where, as far as it names an entry and a side. */
+static void print_refusal(gr_loaded l)
+{
+    fprintf(stderr, "refused %u: %s", (unsigned)l.number, gr_error_name(l.number));
+    if (l.entered) {
+        fprintf(stderr, ", entry %zu", l.entry);
+    }
+    if (l.side != GR_NO_SIDE) {
+        fprintf(stderr, ", %s", gr_side_name(l.side));
+    }
+    fprintf(stderr, "\n");
+}
+
 int main(int argc, char **argv)
 {
     static char file[65536];
@@ -35,9 +48,9 @@ int main(int argc, char **argv)
     }
     gr_record catalog;
     gr_options options = {NULL, GR_STANDARD, 0};
-    uint32_t number = gr_load(file, size, &options, &catalog);
-    if (number != GR_OK) {
-        fprintf(stderr, "refused %u: %s\n", (unsigned)number, gr_error_name(number));
+    gr_loaded loaded = gr_load_located(file, size, &options, &catalog);
+    if (loaded.number != GR_OK) {
+        print_refusal(loaded);
         return 1;
     }
     gr_text title = gr_gettext(file, size, &catalog, "Your invoice");
@@ -47,7 +60,7 @@ int main(int argc, char **argv)
     }
     /* an index beside the catalog: lookups with it answer the same, and faster where there are many entries */
     static uint32_t slots[1024];
-    number = gr_index(file, size, &catalog, slots, 1024);
+    uint32_t number = gr_index(file, size, &catalog, slots, 1024);
     if (number != GR_OK) {
         fprintf(stderr, "no index: %s, %zu wanted\n", gr_error_name(number), gr_slots(&catalog));
         return 1;

@@ -47,6 +47,15 @@ enum gr_number {
     GR_BAD_SPAN = 17           /* a span of counts that ends before it begins, or of over 1,000,000 */
 };
 
+/* Where a refused load failed: the side of an entry. A refusal of the whole file names none. */
+enum gr_side {
+    GR_NO_SIDE = 0,
+    GR_ORIGINAL = 1,    /* a context or an id */
+    GR_TRANSLATION = 2, /* a translation, that of the header too */
+    GR_HEADER = 3,      /* the header's lines, or its charset label */
+    GR_RULE = 4         /* the plural rule, the header's or a forced one */
+};
+
 /* Which text answers a lookup. */
 enum gr_which {
     GR_SEGMENT = 0,  /* the part of the file at start, of len bytes */
@@ -80,9 +89,13 @@ typedef struct gr_record {
     uint8_t codes[512];
 } gr_record;
 
-/* A load's number, and the head of its record: that of the empty catalog where the number is not 0. */
+/* A load's number, and the head of its record: that of the empty catalog where the number is not 0. Where a load was refused, side is the
+ * side that failed, and where entered is 1, entry is the entry, counted from 0; the whole file names neither, a forced rule its side only. */
 typedef struct gr_loaded {
     uint32_t number;
+    uint32_t side;
+    uint32_t entered;
+    size_t entry;
     gr_head head;
 } gr_loaded;
 
@@ -131,7 +144,8 @@ GR_LAYOUT(gr_record, sizeof(gr_record) == 6712);
 GR_LAYOUT(gr_record_values, offsetof(gr_record, values) == 56);
 GR_LAYOUT(gr_record_places, offsetof(gr_record, places) == 56 + 4096);
 GR_LAYOUT(gr_record_codes, offsetof(gr_record, codes) == 56 + 4096 + 2048);
-GR_LAYOUT(gr_loaded, sizeof(gr_loaded) == 64);
+GR_LAYOUT(gr_loaded, sizeof(gr_loaded) == 80);
+GR_LAYOUT(gr_loaded_entry, offsetof(gr_loaded, entry) == 16);
 GR_LAYOUT(gr_answer, sizeof(gr_answer) == 40);
 GR_LAYOUT(gr_range, sizeof(gr_range) == 24);
 GR_LAYOUT(gr_fit, sizeof(gr_fit) == 8);
@@ -216,6 +230,19 @@ static inline const char *gr_error_name(uint32_t number)
     }
 }
 
+/* The name of a side, for people. */
+static inline const char *gr_side_name(uint32_t side)
+{
+    switch (side) {
+    case GR_NO_SIDE: return "none";
+    case GR_ORIGINAL: return "original";
+    case GR_TRANSLATION: return "translation";
+    case GR_HEADER: return "header";
+    case GR_RULE: return "rule";
+    default: return "no such side";
+    }
+}
+
 static inline const uint8_t *gr_bytes(const void *text)
 {
     return (const uint8_t *)(text != NULL ? text : "");
@@ -254,8 +281,9 @@ static inline void gr_empty(gr_record *record)
     record->head = gettext_c_empty(record->codes, record->places, record->values).head;
 }
 
-/* Loads into *record and returns the number; where that is not 0 the record is the empty catalog's. Null options are the default. */
-static inline uint32_t gr_load(const void *file, size_t file_len, const gr_options *options, gr_record *record)
+/* Loads into *record and tells how it went; where the number is not 0 the record is the empty catalog's, and side, entered and entry say
+ * where the load failed. Null options are the default. */
+static inline gr_loaded gr_load_located(const void *file, size_t file_len, const gr_options *options, gr_record *record)
 {
     const char *rule = options != NULL ? options->rule : NULL;
     uint32_t standard = options != NULL && options->reading == GR_STANDARD;
@@ -263,7 +291,13 @@ static inline uint32_t gr_load(const void *file, size_t file_len, const gr_optio
     gr_loaded l = gettext_c_load(gr_bytes(file), gr_size(file, file_len), gr_bytes(rule), gr_length(rule), rule != NULL, standard, utf8,
                                  record->codes, record->places, record->values);
     record->head = l.head;
-    return l.number;
+    return l;
+}
+
+/* The same, and returns the number alone. */
+static inline uint32_t gr_load(const void *file, size_t file_len, const gr_options *options, gr_record *record)
+{
+    return gr_load_located(file, file_len, options, record).number;
 }
 
 /* The translation of the id, alone or in a context. Without one: the id, with number 0. */

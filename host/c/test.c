@@ -73,6 +73,47 @@ static void loads_and_refusals(void)
     free(f);
 }
 
+/* Why a load of these bytes is refused, and where. */
+static int at(const uint8_t *f, size_t len, const gr_options *o, uint32_t number, uint32_t side, uint32_t entered, size_t entry)
+{
+    gr_record r;
+    gr_loaded l = gr_load_located(f, len, o, &r);
+    return l.number == number && l.side == side && l.entered == entered && l.entry == entry && gr_load(f, len, o, &r) == number;
+}
+
+static void places(void)
+{
+    uint8_t *f = copy(48);
+    f[36] = 1;
+    CHECK(at(f, 48, NULL, GR_OK, GR_NO_SIDE, 0, 0));
+    CHECK(at(f, 27, NULL, GR_EOF, GR_NO_SIDE, 0, 0));
+    CHECK(at(NULL, 0, NULL, GR_EOF, GR_NO_SIDE, 0, 0));
+    CHECK(at(f, 47, NULL, GR_EOF, GR_TRANSLATION, 1, 0));
+    CHECK(at(f, 48, with("(", GR_STANDARD), GR_PLURAL_PARSING, GR_RULE, 0, 0));
+    f[8] = 2;
+    CHECK(at(f, 48, NULL, GR_EOF, GR_TRANSLATION, 1, 1));
+    f[8] = 1;
+    f[12] = 49;
+    CHECK(at(f, 48, NULL, GR_EOF, GR_NO_SIDE, 0, 0));
+    f[12] = 28;
+    f[44] = 4;
+    CHECK(at(f, 48, NULL, GR_MALFORMED_METADATA, GR_HEADER, 1, 0));
+    f[44] = 0xff;
+    CHECK(at(f, 48, NULL, GR_DECODING_ERROR, GR_ORIGINAL, 1, 0));
+    f[44] = 0x61;
+    f[46] = 0xff;
+    CHECK(at(f, 48, NULL, GR_DECODING_ERROR, GR_TRANSLATION, 1, 0));
+    f[0] = 0;
+    CHECK(at(f, 48, NULL, GR_BAD_MAGIC, GR_NO_SIDE, 0, 0));
+    free(f);
+    CHECK(strcmp(gr_side_name(GR_NO_SIDE), "none") == 0);
+    CHECK(strcmp(gr_side_name(GR_ORIGINAL), "original") == 0);
+    CHECK(strcmp(gr_side_name(GR_TRANSLATION), "translation") == 0);
+    CHECK(strcmp(gr_side_name(GR_HEADER), "header") == 0);
+    CHECK(strcmp(gr_side_name(GR_RULE), "rule") == 0);
+    CHECK(strcmp(gr_side_name(5), "no such side") == 0);
+}
+
 static void lookups(void)
 {
     uint8_t *g = copy(50);
@@ -330,6 +371,7 @@ int main(void)
     options_and_names();
     longest_rules();
     loads_and_refusals();
+    places();
     lookups();
     altered_records();
     indexes();

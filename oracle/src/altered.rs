@@ -187,6 +187,7 @@ impl Oracle {
         let bytes = make::file(rng);
         let file = self.lent.file.put(&bytes, rng.one_in(2));
         let loaded = self.lent.load(file, None, rng.one_in(2), true);
+        self.located(&bytes, &loaded, false, true)?;
         let mut record = *loaded.catalog;
         if loaded.number != 0 {
             // no load made it, so let it be near this file
@@ -197,7 +198,7 @@ impl Oracle {
         }
         alter_rule(rng, &mut record);
         alter_tables(rng, &mut record, bytes.len());
-        let mut ours = Ours { number: 0, catalog: self.lent.put_record(&record), slots: None };
+        let mut ours = Ours { number: 0, side: 0, entry: None, catalog: self.lent.put_record(&record), slots: None };
         self.stats.cases += 1;
         let told = |what: String| Err(format!("{what}\n  file {}\n  tables {:?}", hex(&bytes), record.head));
 

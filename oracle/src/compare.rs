@@ -1,5 +1,6 @@
 // One input given to both, and the answers held together. What differs is explained by a rule of document 01's domain, or it is a
 // difference; a difference is made smaller as long as it stays one.
+use crate::located;
 use crate::make::{self, Entry, COUNTS};
 use crate::rattle::{cost, empty, Answer, Lent, Ours, Record};
 use crate::rng::Rng;
@@ -114,6 +115,8 @@ pub struct Stats {
     pub lookups: u64,
     pub values: u64,
     pub indexes: u64,
+    // refused loads by the side that they name, 0 none
+    pub places: [u64; 5],
     pub numbers: [u64; 12],
     // each kind of explained difference: how often, and its shortest header or rule
     pub kinds: BTreeMap<String, (u64, Vec<u8>)>,
@@ -125,6 +128,9 @@ impl Stats {
         self.lookups += other.lookups;
         self.values += other.values;
         self.indexes += other.indexes;
+        for (sum, x) in self.places.iter_mut().zip(other.places) {
+            *sum += x;
+        }
         for (sum, x) in self.numbers.iter_mut().zip(other.numbers) {
             *sum += x;
         }
@@ -159,13 +165,13 @@ fn word_in(file: &[u8], big: bool, at: usize) -> Option<usize> {
     Some(if at.checked_add(4)? <= file.len() { make::word_at(file, big, at) as usize } else { return None })
 }
 
-fn string(file: &[u8], big: bool, table: usize, i: usize, more: usize) -> Option<&[u8]> {
+pub fn string(file: &[u8], big: bool, table: usize, i: usize, more: usize) -> Option<&[u8]> {
     let len = word_in(file, big, table + 8 * i)?;
     let at = word_in(file, big, table + 8 * i + 4)?;
     file.get(at..at + len + more)
 }
 
-fn order(file: &[u8]) -> Option<bool> {
+pub fn order(file: &[u8]) -> Option<bool> {
     [false, true].into_iter().find(|&big| file.len() >= 28 && file[..4] == make::magic(big))
 }
 
@@ -228,17 +234,17 @@ fn alone(file: &[u8], start: usize, end: usize) -> bool {
         && (0..n).all(|i| string_apart(tables[0], i) && (i == 0 || string_apart(tables[1], i)))
 }
 
-fn field<'a>(header: &'a str, name: &str) -> Option<&'a str> {
+pub fn field<'a>(header: &'a str, name: &str) -> Option<&'a str> {
     let fields = header.split('\n').filter_map(|line| line.split_once(':'));
     fields.filter(|(before, _)| before.trim() == name).map(|(_, value)| value.trim()).last()
 }
 
-fn rule_of(header: &str) -> Option<&str> {
+pub fn rule_of(header: &str) -> Option<&str> {
     let parts = field(header, "Plural-Forms")?.split(';').filter_map(|part| part.split_once('='));
     parts.filter(|(name, _)| name.trim_matches(six) == "plural").map(|(_, rule)| rule.trim()).last()
 }
 
-fn is_utf8_label(label: &str) -> bool {
+pub fn is_utf8_label(label: &str) -> bool {
     let label = label.trim_matches(['\t', '\n', '\x0c', '\r', ' ']).to_ascii_lowercase();
     ["utf-8", "utf8", "unicode-1-1-utf-8"].contains(&label.as_str())
 }
@@ -365,6 +371,7 @@ impl Oracle {
             return Err(format!("cost {}, the tables state {}", cost(file), cost_of(bytes)));
         }
         let ours = self.lent.load(file, rule, false, utf8);
+        self.located(bytes, &ours, forced.is_some(), utf8)?;
         let theirs = theirs(twin, forced.is_some());
         match &theirs {
             Theirs::Loads(catalog) if ours.number == 0 => {
@@ -413,6 +420,16 @@ impl Oracle {
         }
     }
 
+    // A load ends with the number and at the place that the words give.
+    pub fn located(&mut self, bytes: &[u8], ours: &Ours, forced: bool, utf8: bool) -> Result<(), String> {
+        let told = located::told(bytes, forced, utf8, ours.number);
+        if ours.told() != told {
+            return Err(format!("{:?}, by the words {told:?}", ours.told()));
+        }
+        self.stats.places[told.side as usize] += (told.number != 0) as u64;
+        Ok(())
+    }
+
     // A header outside the domain is held to what the crate says of it with blanks for white space that is trimmed and a sign that nothing
     // reads for each other byte outside ASCII: such a byte is a part of nothing that is read.
     fn in_ascii(&mut self, rng: &mut Rng, file: &[u8], twin: &[u8], ours: &Ours, forced: bool, depth: Depth) -> Result<(), String> {
@@ -456,7 +473,7 @@ impl Oracle {
     // The empty catalog answers with the caller's own texts.
     pub fn empty_catalog(&mut self, rng: &mut Rng) -> Result<(), String> {
         let record = self.empty;
-        let ours = Ours { number: 0, catalog: &record, slots: None };
+        let ours = Ours { number: 0, side: 0, entry: None, catalog: &record, slots: None };
         let file = self.lent.file.put(b"", false);
         for key in [&b""[..], b"a", b"a\x04b"] {
             self.ask(rng, file, b"", &ours, &Catalog::empty(), key, &COUNTS)?;
@@ -630,7 +647,9 @@ impl Oracle {
         let trimmed = read.len();
         if !read.is_ascii() {
             // outside the domain: only this port's own answer is held to document 01
-            let ours = self.lent.load(lent, Some(text), false, false).number;
+            let loaded = self.lent.load(lent, Some(text), false, false);
+            self.located(lent, &loaded, true, false)?;
+            let ours = loaded.number;
             let wanted = if trimmed > 512 { 8 } else { 6 };
             if ours != wanted {
                 return Err(format!("rule outside ASCII, forced: {ours}, not {wanted}"));
@@ -639,9 +658,11 @@ impl Oracle {
             return Ok(());
         }
         let ours = self.lent.load(lent, None, false, false);
+        self.located(lent, &ours, false, false)?;
         let number = ours.number;
         let record = if number == 0 { Some(*ours.catalog) } else { None };
         let forced = self.lent.load(lent, Some(text), false, false);
+        self.located(lent, &forced, true, false)?;
         if forced.number != number {
             return Err(format!("forced {}, by header {number}", forced.number));
         }
@@ -733,6 +754,7 @@ impl Oracle {
                 self.stats.cases += 1;
                 let file = self.lent.file.put(bytes, false);
                 let ours = self.lent.load(file, Some(self.lent.rule.put(rule, false)), false, false);
+                self.located(file, &ours, true, false)?;
                 if ours.number != 6 {
                     return Err(format!("forced rule without a reading: {}", ours.number));
                 }

@@ -3,6 +3,7 @@
 mod altered;
 mod compare;
 mod indexed;
+mod located;
 mod make;
 mod named;
 mod rattle;
@@ -177,11 +178,12 @@ fn summary(part: &str, stats: &Stats, differ: u64, start: Instant) -> bool {
         println!("  explained {times}: {kind}; shortest: {}", shrink::example(kind, example));
     }
     println!(
-        "{part}: {} cases, {} lookups, {} values, {} indexes; agreed by number {:?}; {} explained, {differ} differ",
+        "{part}: {} cases, {} lookups, {} values, {} indexes; refused by side {:?}; agreed by number {:?}; {} explained, {differ} differ",
         stats.cases,
         stats.lookups,
         stats.values,
         stats.indexes,
+        stats.places,
         stats.numbers,
         stats.kinds.values().map(|(times, _)| times).sum::<u64>(),
     );

@@ -1,5 +1,6 @@
 // The port's static library, and memory to lend it: everything that is lent lies in pages that can only be read, between two pages
 // that cannot be touched, so that a write, and a read of one byte past the end (or before the start), ends the run.
+use crate::located::Told;
 use std::ffi::{c_char, c_int, c_long, c_uint, c_void};
 
 // The declarations are the Rust host's own.
@@ -62,6 +63,8 @@ pub struct Lent {
 #[derive(Clone, Copy)]
 pub struct Ours<'a> {
     pub number: u32,
+    pub side: u32,
+    pub entry: Option<usize>,
     pub catalog: &'a Record,
     pub slots: Option<&'a [u32]>,
 }
@@ -104,8 +107,11 @@ impl Lent {
         let at = self.record.size - std::mem::size_of::<Record>();
         unsafe {
             let out = &mut *(self.record.write.add(at) as *mut Record);
-            let number = ffi::load(file, rule, standard, utf8, out);
-            Ours { number, catalog: &*(self.record.read.add(at) as *const Record), slots: None }
+            let loaded = ffi::load(file, rule, standard, utf8, out);
+            // an index beside "none", or another flag than 0 and 1, would be a second way to say a place
+            assert!(loaded.entered == 1 || (loaded.entered, loaded.entry) == (0, 0));
+            let entry = (loaded.entered == 1).then_some(loaded.entry);
+            Ours { number: loaded.number, side: loaded.side, entry, catalog: &*(self.record.read.add(at) as *const Record), slots: None }
         }
     }
 
@@ -147,6 +153,10 @@ pub fn text(record: &Record, buffer: &mut [u8]) -> ffi::Written {
 }
 
 impl<'a> Ours<'a> {
+    pub fn told(&self) -> Told {
+        Told { number: self.number, entry: self.entry, side: self.side }
+    }
+
     // No lookup has this number: the one in the slots answers another thing than the scan.
     fn both(&self, scan: Answer, indexed: impl Fn(Option<&[u32]>) -> Answer) -> Answer {
         if self.slots.is_some() && indexed(self.slots) != scan {

@@ -90,12 +90,8 @@ fn rule_of(
     let mut ints = [0u64; 512];
     let read = read(s, reading, &mut heads, &mut fields, &mut ints);
     let rules::Nodes::Read(count) = read else {
-        return refuse(
-            refusal::at(place, Error::PluralParsing),
-            codes,
-            places,
-            values,
-        ); // no reading
+        let why = refusal::at(place, Error::PluralParsing); // no reading
+        return refuse(why, codes, places, values);
     };
     let nodes = rules_pack::pack(&heads, &fields, &ints, count - 1, codes, places, values);
     Parsed {
@@ -120,20 +116,12 @@ pub fn parse(
     let long = rules::MOST < s.len();
     let foreign = !ascii(s);
     if long {
-        return refuse(
-            refusal::at(place, Error::RuleTooLong),
-            codes,
-            places,
-            values,
-        );
+        let why = refusal::at(place, Error::RuleTooLong);
+        return refuse(why, codes, places, values);
     }
     if foreign {
-        return refuse(
-            refusal::at(place, Error::PluralParsing),
-            codes,
-            places,
-            values,
-        ); // a byte of 128 or more
+        let why = refusal::at(place, Error::PluralParsing); // a byte of 128 or more
+        return refuse(why, codes, places, values);
     }
     rule_of(s, place, reading, codes, places, values)
 }

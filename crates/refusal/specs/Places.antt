@@ -12,15 +12,21 @@ use Rattle.refusal.specs.declared.Refusal.{Refusal}
 use Rattle.refusal.specs.declared.Outcome.{Outcome}
 use Rattle.refusal.specs.declared.Outcome.the-variants.{Loaded, Refused}
 
+-- what each place names
+pub record Names : Type 0 where
+  pub index : Option ℕ
+  pub side : Option Side
+
+abbrev pub names : Where → Names
+names File = record { index = none; side = none }
+names Forced = record { index = none; side = some Rule }
+names (Entry i side) = record { index = some i; side = some side }
+
 abbrev pub indexOf : Where → Option ℕ
-indexOf File = none
-indexOf Forced = none
-indexOf (Entry i side) = some i
+indexOf w = names w .index
 
 abbrev pub sideOf : Where → Option Side
-sideOf File = none
-sideOf Forced = some Rule
-sideOf (Entry i side) = some side
+sideOf w = names w .side
 
 abbrev pub at : Where → Error → Refusal
 at w e = record { error = e; place = w }

@@ -1,5 +1,6 @@
-//! Why a load is refused, and how a lookup went.
+//! Why and where a load is refused, and how a lookup went.
 
+use crate::ffi;
 use std::error;
 use std::fmt;
 use std::io;
@@ -116,6 +117,133 @@ impl error::Error for Error {
 impl From<io::Error> for Error {
     fn from(error: io::Error) -> Self {
         Error::Io(error)
+    }
+}
+
+/// A side of an entry, where a load failed.
+#[derive(Clone, Copy, Debug, PartialEq, Eq, Hash)]
+#[non_exhaustive]
+pub enum Side {
+    /// The original: its context or its id.
+    Original,
+    /// The translation, that of the header too.
+    Translation,
+    /// The header's lines, or its charset label.
+    Header,
+    /// The plural rule, the header's or a forced one.
+    Rule,
+}
+
+impl Side {
+    /// The number, as the C interface has it.
+    #[must_use]
+    pub fn number(self) -> u32 {
+        match self {
+            Side::Original => 1,
+            Side::Translation => 2,
+            Side::Header => 3,
+            Side::Rule => 4,
+        }
+    }
+
+    /// The side that a number tells, 0 being none.
+    fn of(number: u32) -> Option<Side> {
+        [Side::Original, Side::Translation, Side::Header, Side::Rule]
+            .into_iter()
+            .find(|side| side.number() == number)
+    }
+}
+
+impl fmt::Display for Side {
+    fn fmt(&self, f: &mut fmt::Formatter<'_>) -> fmt::Result {
+        f.write_str(match self {
+            Side::Original => "original",
+            Side::Translation => "translation",
+            Side::Header => "header",
+            Side::Rule => "rule",
+        })
+    }
+}
+
+/// Why a catalog was not loaded, and where: what [`ParseOptions::located`](crate::ParseOptions::located) is for.
+///
+/// It becomes an [`Error`] by `?` in a function that answers one, and says both in a sentence:
+/// `invalid byte sequence in a string, entry 7, original`.
+#[derive(Debug)]
+pub struct Refusal {
+    error: Error,
+    entry: Option<usize>,
+    side: Option<Side>,
+}
+
+impl Refusal {
+    /// Why.
+    #[must_use]
+    pub fn error(&self) -> &Error {
+        &self.error
+    }
+
+    /// Why, as its own.
+    #[must_use]
+    pub fn into_error(self) -> Error {
+        self.error
+    }
+
+    /// The index of the entry, counted from 0. What is refused for the file as a whole, for a forced rule, or before the load names none.
+    #[must_use]
+    pub fn entry(&self) -> Option<usize> {
+        self.entry
+    }
+
+    /// The side. What is refused for the file as a whole, or before the load, names none.
+    #[must_use]
+    pub fn side(&self) -> Option<Side> {
+        self.side
+    }
+
+    /// The refusal that a load tells, if any.
+    pub(crate) fn of(loaded: &ffi::Loaded) -> Result<(), Refusal> {
+        Error::of(loaded.number).map_err(|error| Refusal {
+            error,
+            entry: (loaded.entered != 0).then_some(loaded.entry),
+            side: Side::of(loaded.side),
+        })
+    }
+}
+
+impl fmt::Display for Refusal {
+    fn fmt(&self, f: &mut fmt::Formatter<'_>) -> fmt::Result {
+        self.error.fmt(f)?;
+        if let Some(entry) = self.entry {
+            write!(f, ", entry {entry}")?;
+        }
+        match self.side {
+            Some(side) => write!(f, ", {side}"),
+            None => Ok(()),
+        }
+    }
+}
+
+impl error::Error for Refusal {
+    fn source(&self) -> Option<&(dyn error::Error + 'static)> {
+        self.error.source()
+    }
+}
+
+impl From<Refusal> for Error {
+    fn from(refusal: Refusal) -> Self {
+        refusal.error
+    }
+}
+
+/// An error that names no place.
+impl From<Error> for Refusal {
+    fn from(error: Error) -> Self {
+        Refusal {
+            error,
+            entry: None,
+            side: None,
+        }
     }
 }
 

@@ -33,11 +33,14 @@ pub struct Record {
     pub codes: [u8; 512],
 }
 
-/// A load's number and its record's head.
+/// A load's number; where a refused one failed, the side (0 none) and, where `entered` is not 0, the entry; and its record's head.
 #[repr(C)]
 #[derive(Clone, Copy)]
 pub struct Loaded {
     pub number: u32,
+    pub side: u32,
+    pub entered: u32,
+    pub entry: usize,
     pub head: Head,
 }
 
@@ -88,7 +91,7 @@ pub struct Written {
 
 const _: () = assert!(size_of::<Head>() == 56);
 const _: () = assert!(size_of::<Record>() == 6712);
-const _: () = assert!(size_of::<Loaded>() == 64);
+const _: () = assert!(size_of::<Loaded>() == 80);
 const _: () = assert!(size_of::<Answer>() == 40);
 const _: () = assert!(size_of::<Rating>() == 24);
 const _: () = assert!(size_of::<Fits>() == 8);
@@ -275,8 +278,14 @@ pub fn empty() -> Box<Record> {
     r
 }
 
-/// Loads into a record and answers the number. `rule` is read where it is given.
-pub fn load(file: &[u8], rule: Option<&[u8]>, standard: bool, utf8: bool, r: &mut Record) -> u32 {
+/// Loads into a record and answers how it went. `rule` is read where it is given.
+pub fn load(
+    file: &[u8],
+    rule: Option<&[u8]>,
+    standard: bool,
+    utf8: bool,
+    r: &mut Record,
+) -> Loaded {
     let text = rule.unwrap_or(&[]);
     // SAFETY: both slices live for the call and are only read; the record's arrays live for the call, which writes them.
     let loaded = unsafe {
@@ -294,7 +303,7 @@ pub fn load(file: &[u8], rule: Option<&[u8]>, standard: bool, utf8: bool, r: &mu
         )
     };
     r.head = loaded.head;
-    loaded.number
+    loaded
 }
 
 /// How many slots the index of a record uses.

@@ -25,6 +25,10 @@
 //! assert_eq!(catalog.rating(), Some((0, 1)));
 //! assert_eq!(catalog.rule_text()?, "(n!=1)");
 //! assert_eq!(catalog.forms_over(0..=9)?.of(0), Some(1));
+//!
+//! // a refusal that says where
+//! let cut = ParseOptions::new().located().parse_slice(&file[..400]);
+//! assert_eq!(cut.unwrap_err().to_string(), "unexpected end of file, entry 2, translation");
 //! # Ok(())
 //! # }
 //! ```
@@ -36,6 +40,7 @@
 //! - A rule that takes a remainder by zero answers the caller's text, and [`Status::ZeroModulus`], where gettext 0.4.0 panics.
 //! - A rule's text has at most 512 bytes, see [`Error::RuleTooLong`]; [`Error`] may get more variants.
 //! - A plural rule can be read in two ways, see [`Reading`].
+//! - A refused load can say where: [`ParseOptions::located`]. [`Error`] is as it was.
 //!
 //! examples/changed_over.rs is a program that changed over, with the lines of before beside those that changed.
 
@@ -50,9 +55,9 @@ mod options;
 
 pub use bytes::{Bytes, Live};
 pub use catalog::{Answer, Catalog, Forms, Which};
-pub use error::{Error, Status};
+pub use error::{Error, Refusal, Side, Status};
 pub use index::{Scan, Search};
-pub use options::{ParseOptions, Reading};
+pub use options::{Located, ParseOptions, Reading};
 
 /// Whether a text is UTF-8 by RFC 3629, as loading tests it.
 #[must_use]

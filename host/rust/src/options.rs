@@ -1,6 +1,6 @@
 //! The options of a load.
 
-use crate::{cost, ffi, Bytes, Catalog, Error};
+use crate::{cost, ffi, Bytes, Catalog, Error, Refusal};
 use std::io::Read;
 
 /// How plural rules are read, the header's and a forced one alike.
@@ -74,16 +74,19 @@ impl<'r> ParseOptions<'r> {
         self
     }
 
+    /// The same options; a load by them that is refused says where, see [`Located`].
+    pub fn located(self) -> Located<'r> {
+        Located(self)
+    }
+
     /// Reads the file to its end and loads the catalog, which owns the bytes.
     ///
     /// # Errors
     ///
     /// [`Error::Io`] if the file cannot be read, [`Error::TooCostly`] if a limit is set and the load would cost more, else the refusal
     /// of the load.
-    pub fn parse<R: Read>(self, mut reader: R) -> Result<Catalog, Error> {
-        let mut file = Vec::new();
-        reader.read_to_end(&mut file)?;
-        self.parse_bytes(file)
+    pub fn parse<R: Read>(self, reader: R) -> Result<Catalog, Error> {
+        Ok(self.located().parse(reader)?)
     }
 
     /// Loads the catalog that lies in `file`, which is lent.
@@ -101,21 +104,69 @@ impl<'r> ParseOptions<'r> {
     ///
     /// As [`ParseOptions::parse`], without [`Error::Io`].
     pub fn parse_bytes<B: Bytes>(self, file: B) -> Result<Catalog<B>, Error> {
-        if let Some(limit) = self.max_cost {
+        Ok(self.located().parse_bytes(file)?)
+    }
+}
+
+/// Options of a load whose refusal says where it failed: [`ParseOptions::located`] makes them.
+///
+/// ```
+/// use gettext_rattle::{Error, ParseOptions, Side};
+///
+/// # let path = concat!(env!("CARGO_MANIFEST_DIR"), "/test_cases/invalid_utf8.mo");
+/// let file = std::fs::read(path).unwrap();
+/// let refusal = ParseOptions::new().located().parse_slice(&file).unwrap_err();
+/// assert!(matches!(refusal.error(), Error::DecodingError));
+/// assert_eq!((refusal.entry(), refusal.side()), (Some(0), Some(Side::Translation)));
+/// assert_eq!(refusal.to_string(), "invalid byte sequence in a string, entry 0, translation");
+/// ```
+#[derive(Clone, Copy, Debug, Default)]
+#[must_use]
+pub struct Located<'r>(ParseOptions<'r>);
+
+impl Located<'_> {
+    /// [`ParseOptions::parse`].
+    ///
+    /// # Errors
+    ///
+    /// Its errors, with the place.
+    pub fn parse<R: Read>(self, mut reader: R) -> Result<Catalog, Refusal> {
+        let mut file = Vec::new();
+        reader.read_to_end(&mut file).map_err(Error::from)?;
+        self.parse_bytes(file)
+    }
+
+    /// [`ParseOptions::parse_slice`].
+    ///
+    /// # Errors
+    ///
+    /// Its errors, with the place.
+    pub fn parse_slice(self, file: &[u8]) -> Result<Catalog<&[u8]>, Refusal> {
+        self.parse_bytes(file)
+    }
+
+    /// [`ParseOptions::parse_bytes`].
+    ///
+    /// # Errors
+    ///
+    /// Its errors, with the place.
+    pub fn parse_bytes<B: Bytes>(self, file: B) -> Result<Catalog<B>, Refusal> {
+        let options = self.0;
+        if let Some(limit) = options.max_cost {
             let cost = cost(file.bytes());
             if cost > limit {
-                return Err(Error::TooCostly { cost, limit });
+                return Err(Error::TooCostly { cost, limit }.into());
             }
         }
         let mut record = ffi::blank();
-        let number = ffi::load(
+        let loaded = ffi::load(
             file.bytes(),
-            self.rule.map(str::as_bytes),
-            self.reading == Reading::Standard,
-            self.utf8,
+            options.rule.map(str::as_bytes),
+            options.reading == Reading::Standard,
+            options.utf8,
             &mut record,
         );
-        Error::of(number)?;
+        Refusal::of(&loaded)?;
         Ok(Catalog::of(file, record))
     }
 }

@@ -1,7 +1,9 @@
 //! Small files and rules: document 01's F and G with their variants, every refusal that a file can get, and the lookups over files made
 //! here.
 
-use gettext_rattle::{cost, is_utf8, Catalog, Error, ParseOptions, Reading, Status, Which};
+use gettext_rattle::{
+    cost, is_utf8, Catalog, Error, ParseOptions, Reading, Refusal, Side, Status, Which,
+};
 use std::collections::HashMap;
 use std::fs::File;
 use std::io::{self, Read};
@@ -245,6 +247,137 @@ fn errors_have_their_numbers_and_words() {
     let e: Box<dyn std::error::Error> = Box::new(Error::BadMagic);
     assert_eq!(e.to_string(), "bad magic number");
     assert!(e.source().is_none());
+}
+
+/// Why and where a load is refused.
+fn located(file: &[u8]) -> Refusal {
+    ParseOptions::new().located().parse_slice(file).unwrap_err()
+}
+
+/// The number, the entry and the side, as the program `mo` prints them.
+fn printed(refusal: &Refusal) -> String {
+    let number = refusal.error().number().unwrap();
+    let entry = refusal.entry().map_or(String::new(), |i| format!(" {i}"));
+    let side = refusal.side().map_or(String::new(), |s| format!(" {s}"));
+    format!("{number}{entry}{side}")
+}
+
+/// A file for each row of SPEC 2.1, with its number, its entry and its side.
+#[test]
+fn a_refusal_says_where() {
+    let long = format!("Plural-Forms: plural={}\n", "n".repeat(513));
+    let five: &[(&[u8], &[u8])] = &[
+        (b"", b"\n"),
+        (b"a", b"b"),
+        (b"c\x04d", b"e"),
+        (b"f", b"g\0h"),
+        (b"i", b"j"),
+    ];
+    // the fourth of five entries, with another original or translation
+    let fourth = |original: &[u8], translation: &[u8]| {
+        let mut entries = five.to_vec();
+        entries[3] = (original, translation);
+        made(&entries)
+    };
+    let rows: &[(&[u8], &str)] = &[
+        // the file: its size, its magic, its tables
+        (&[], "1"),
+        (&F[..27], "1"),
+        (&with(0, 0), "2"),
+        (&with(12, 49), "1"),
+        (&with(16, 49), "1"),
+        // originals: a cell outside, a string outside, no NUL, a context, an id, an empty id
+        (&with(12, 48), "1 0 original"),
+        (&with(28, 4), "1 0 original"),
+        (&with(45, 0x62), "1 0 original"),
+        (&fourth(b"\xff\x04f", b"g"), "3 3 original"),
+        (&fourth(b"x\x04\xff", b"g"), "3 3 original"),
+        (&fourth(b"", b"g"), "5 3 original"),
+        (&fourth(b"x\x04", b"\xff"), "5 3 original"),
+        // translations: a cell outside, a string outside, segments; the original comes first
+        (&F[..47], "1 0 translation"),
+        (&with(16, 48), "1 0 translation"),
+        (&with(8, 2), "1 1 translation"),
+        (&fourth(b"f", b"\xff"), "3 3 translation"),
+        (&fourth(b"f", b"g\0\xff"), "3 3 translation"),
+        (&fourth(b"\xff", b"\xff"), "3 3 original"),
+        // the header's translation, its lines, its label, its rule
+        (&headed(b"\xff"), "3 0 translation"),
+        (&headed(b"A: b\0\xff"), "3 0 translation"),
+        (&headed(b"no colon"), "4 0 header"),
+        (&with(44, 4), "4 0 header"),
+        (&headed(b"Content-Type: charset=x"), "7 0 header"),
+        (&headed(b"Plural-Forms: plural=("), "6 0 rule"),
+        (&headed(b"Plural-Forms: plural="), "6 0 rule"),
+        (&headed(long.as_bytes()), "8 0 rule"),
+    ];
+    for (file, told) in rows {
+        let refusal = located(file);
+        assert_eq!(printed(&refusal), *told, "{file:x?}");
+        // the error alone is the same
+        let error = Catalog::parse_slice(file).unwrap_err();
+        assert_eq!(error.number(), refusal.error().number());
+    }
+    assert!(ParseOptions::new()
+        .located()
+        .parse_bytes(made(five))
+        .is_ok());
+}
+
+#[test]
+fn a_forced_rule_names_its_side_alone() {
+    for (rule, told) in [("n".repeat(513), "8 rule"), ("(".to_string(), "6 rule")] {
+        let refusal = ParseOptions::new()
+            .force_plural(&rule)
+            .located()
+            .parse_slice(&[])
+            .unwrap_err();
+        assert_eq!(printed(&refusal), told);
+    }
+}
+
+#[test]
+fn refusals_are_sentences_and_errors() {
+    let entries: Vec<(&[u8], &[u8])> = (0..9)
+        .map(|i| (if i == 7 { &b"\xff"[..] } else { b"x" }, &b"y"[..]))
+        .collect();
+    let refusal = located(&made(&entries));
+    assert_eq!(
+        refusal.to_string(),
+        "invalid byte sequence in a string, entry 7, original"
+    );
+    assert_eq!(located(&[]).to_string(), "unexpected end of file");
+    assert_eq!(
+        located(&headed(b"Plural-Forms: plural=(")).to_string(),
+        "invalid plural expression, entry 0, rule"
+    );
+    // `?` makes it an error, and a boxed one
+    fn load(file: &[u8]) -> Result<usize, Error> {
+        Ok(ParseOptions::new().located().parse_slice(file)?.len())
+    }
+    fn boxed(file: &[u8]) -> Result<usize, Box<dyn std::error::Error>> {
+        Ok(ParseOptions::new().located().parse_slice(file)?.len())
+    }
+    assert!(matches!(load(&F[..27]), Err(Error::Eof)));
+    assert!(boxed(&F).is_ok());
+    assert!(matches!(refusal.into_error(), Error::DecodingError));
+    // what comes before a load names no place
+    let costly = ParseOptions::new()
+        .max_cost(1)
+        .located()
+        .parse_slice(&F)
+        .unwrap_err();
+    assert!(matches!(
+        costly.error(),
+        Error::TooCostly { cost: 2, limit: 1 }
+    ));
+    assert_eq!((costly.entry(), costly.side()), (None, None));
+    for (i, side) in [Side::Original, Side::Translation, Side::Header, Side::Rule]
+        .into_iter()
+        .enumerate()
+    {
+        assert_eq!(side.number(), i as u32 + 1);
+    }
 }
 
 #[test]
