@@ -117,7 +117,7 @@ pub struct Stats {
     pub indexes: u64,
     // refused loads by the side that they name, 0 none
     pub places: [u64; 5],
-    pub numbers: [u64; 12],
+    pub numbers: [u64; 14],
     // each kind of explained difference: how often, and its shortest header or rule
     pub kinds: BTreeMap<String, (u64, Vec<u8>)>,
 }

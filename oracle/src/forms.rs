@@ -132,7 +132,8 @@ impl Oracle {
                 if fitted.number != 0 && fitted.forms.is_some() {
                     return Err(format!("a count beside a refusal: {}", what()));
                 }
-                self.stats.numbers[fitted.number.min(11) as usize] += 1;
+                self.stats.numbers[fitted.number as usize] += 1;
+                self.stats.places[fitted.side as usize] += (fitted.number != 0) as u64;
                 if fitted.number == 0 {
                     self.from_the_forms(rng, file, &fitted, count.unwrap_or(0)).map_err(|e| format!("{e}: {}", what()))?;
                 }
@@ -172,19 +173,6 @@ pub struct Real {
     pub without: u64,
     // rules that do not fit: count, rule and range, and how many files have them
     pub rules: BTreeMap<(u64, String, String), u64>,
-}
-
-impl Real {
-    pub fn add(&mut self, other: Real) {
-        self.load += other.load;
-        self.counted += other.counted;
-        self.fit += other.fit;
-        self.headless += other.headless;
-        self.without += other.without;
-        for (rule, files) in other.rules {
-            *self.rules.entry(rule).or_default() += files;
-        }
-    }
 }
 
 impl Oracle {
@@ -234,6 +222,9 @@ pub fn table(files: usize, readings: &[(&str, Real)]) -> String {
     row("13: no header", |r| r.headless);
     row("13: a header without a count", |r| r.without);
     row("13: the rule does not fit", |r| r.rules.values().sum());
+    if readings.iter().all(|(_, real)| real.rules.is_empty()) {
+        return out + "\nEvery rule with a count fits it.\n";
+    }
     out += "\n| reading | count | rule that does not fit | range | files |\n|---|---:|---|---|---:|\n";
     for (reading, real) in readings {
         let mut rules: Vec<_> = real.rules.iter().collect();

@@ -75,10 +75,10 @@ impl<'r> ParseOptions<'r> {
     /// says answers one of them.
     ///
     /// ```
-    /// # let path = concat!(env!("CARGO_MANIFEST_DIR"), "/../../examples/de.mo");
     /// use gettext_rattle::{Error, ParseOptions};
     ///
     /// # fn main() -> Result<(), Error> {
+    /// # let path = concat!(env!("CARGO_MANIFEST_DIR"), "/../../examples/de.mo");
     /// let file = std::fs::read(path)?;
     /// let catalog = ParseOptions::new().require_fit().parse_slice(&file)?;
     /// assert_eq!(catalog.form_count(), Some(2));

@@ -643,8 +643,14 @@ fn the_count_of_forms() {
         assert_eq!(counted(forms.as_bytes(), None), (count, error), "{forms}");
     }
     // the header's rule is not read, its count is
-    assert_eq!(counted(b"nplurals=2;plural=(", Some("n>1")), (Some(2), None));
-    assert_eq!(counted(b"nplurals=2;plural=0", Some("n%3")), (Some(2), not_fit));
+    assert_eq!(
+        counted(b"nplurals=2;plural=(", Some("n>1")),
+        (Some(2), None)
+    );
+    assert_eq!(
+        counted(b"nplurals=2;plural=0", Some("n%3")),
+        (Some(2), not_fit)
+    );
 }
 
 #[test]
@@ -654,10 +660,19 @@ fn a_fit_is_the_last_test() {
     assert!(matches!(demand().parse_slice(&F), Err(Error::NotFit)));
     assert!(matches!(demand().parse_slice(&F[..47]), Err(Error::Eof)));
     let bad = made(&[(b"", b"Plural-Forms:nplurals=1"), (b"x", b"\xff")]);
-    assert!(matches!(demand().parse_slice(&bad), Err(Error::DecodingError)));
+    assert!(matches!(
+        demand().parse_slice(&bad),
+        Err(Error::DecodingError)
+    ));
     let twice = made(&[(b"", b"Plural-Forms:nplurals=1"), (b"", b"x")]);
-    assert!(matches!(demand().parse_slice(&twice), Err(Error::MisplacedMetadata)));
-    assert!(matches!(demand().force_plural("(").parse_slice(&F), Err(Error::PluralParsing)));
+    assert!(matches!(
+        demand().parse_slice(&twice),
+        Err(Error::MisplacedMetadata)
+    ));
+    assert!(matches!(
+        demand().force_plural("(").parse_slice(&F),
+        Err(Error::PluralParsing)
+    ));
     // without the demand, all as before
     assert_eq!(Catalog::parse_slice(&F).unwrap().form_count(), None);
     assert_eq!(Catalog::empty().form_count(), None);
