@@ -38,7 +38,15 @@ class Head(ctypes.Structure):
 
 
 class Loaded(ctypes.Structure):
-    _fields_ = [("number", c_uint32), ("side", c_uint32), ("entered", c_uint32), ("entry", c_size_t), ("head", Head)]
+    _fields_ = [
+        ("number", c_uint32),
+        ("side", c_uint32),
+        ("entered", c_uint32),
+        ("counted", c_uint32),
+        ("entry", c_size_t),
+        ("forms", c_uint64),
+        ("head", Head),
+    ]
 
 
 class Record:
@@ -65,7 +73,7 @@ def port(folder):
     subprocess.run(["gcc", "-shared", "-o", shared, "-Wl,--whole-archive", library, "-Wl,--no-whole-archive"], check=True)
     lib = ctypes.CDLL(shared)
     rule = [POINTER(c_uint8 * 512), POINTER(c_uint16 * PLACES), POINTER(c_uint64 * 512)]
-    lib.gettext_c_load.argtypes = [c_char_p, c_size_t, c_char_p, c_size_t, c_uint32, c_uint32, c_uint32] + rule
+    lib.gettext_c_load.argtypes = [c_char_p, c_size_t, c_char_p, c_size_t, c_uint32, c_uint32, c_uint32, c_uint32] + rule
     lib.gettext_c_load.restype = Loaded
     lib.gettext_c_resolve.argtypes = [POINTER(Head)] + rule + [c_uint64]
     lib.gettext_c_resolve.restype = Form
@@ -83,7 +91,7 @@ class Port:
 
     def load(self, file, rule=None):
         forced, record = rule is not None, Record()
-        loaded = self.lib.gettext_c_load(file, len(file), rule or b"", len(rule or b""), forced, 1, 0, *record.rule())
+        loaded = self.lib.gettext_c_load(file, len(file), rule or b"", len(rule or b""), forced, 1, 0, 0, *record.rule())
         record.number, record.head = loaded.number, loaded.head
         return record
 

@@ -221,12 +221,12 @@ fn index(rows: &mut Vec<Row>, scratch: &Path) {
             rows.push(faster("index", format!("hit, {n} entries"), "ns", hit, theirs, "glibc"));
         }
         let mut record = ffi::blank();
-        ffi::load(&file, None, false, false, &mut record);
+        ffi::load(&file, None, false, false, false, &mut record);
         let mut slots = vec![0; ffi::slots(&record)];
         let [load, build] = race(
             25,
             [
-                &mut || keep(ffi::load(black_box(&file), None, false, false, &mut ffi::blank())),
+                &mut || keep(ffi::load(black_box(&file), None, false, false, false, &mut ffi::blank())),
                 &mut || keep(ffi::index(black_box(&file), &record, &mut slots)),
             ],
         )
@@ -322,7 +322,7 @@ fn evaluation(rows: &mut Vec<Row>) {
         for (reading, called) in [(Shipped, "Shipped"), (Standard, "Standard")] {
             let ours = gettext_rattle::ParseOptions::new().reading(reading).parse_slice(&file).expect("it loads");
             let mut record = ffi::blank();
-            ffi::load(&file, None, reading == Standard, false, &mut record);
+            ffi::load(&file, None, reading == Standard, false, false, &mut record);
             let text = ours.rule_text().expect("it has at most 512 bytes");
             let (_, same) = generated(0, &text);
             let other = gettext::Catalog::parse(&same[..]).expect("it loads");

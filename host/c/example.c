@@ -47,12 +47,13 @@ int main(int argc, char **argv)
         return 1;
     }
     gr_record catalog;
-    gr_options options = {NULL, GR_STANDARD, 0};
+    gr_options options = {NULL, GR_STANDARD, 0, 1}; /* the rule has to fit the number of forms that the header says */
     gr_loaded loaded = gr_load_located(file, size, &options, &catalog);
     if (loaded.number != GR_OK) {
         print_refusal(loaded);
         return 1;
     }
+    printf("%llu forms\n", (unsigned long long)catalog.forms);
     gr_text title = gr_gettext(file, size, &catalog, "Your invoice");
     printf("%.*s\n", (int)title.len, title.text);
     for (uint64_t n = 0; n < 4; n++) {

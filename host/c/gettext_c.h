@@ -29,7 +29,7 @@ extern "C" {
 #define GR_VERSION "0.2.0"
 #define GR_VERSION_NUMBER 200 /* 10000 * major + 100 * minor + patch */
 
-/* 1 to 8 come from a load and refuse the file; 10 to 12 come from a lookup, whose answer is then the caller's own text, 11 and 12 also from
+/* 1 to 8 and 13 come from a load and refuse the file; 10 to 12 come from a lookup, whose answer is then the caller's own text, 11 and 12 also from
  * building an index. 9 is not given. */
 enum gr_number {
     GR_OK = 0,
@@ -44,6 +44,7 @@ enum gr_number {
     GR_ZERO_MODULUS = 10,      /* the plural rule takes a remainder by zero at this count */
     GR_BAD_RECORD = 11,        /* the file has another length than the record says, or its rule is no tree */
     GR_INDEX_ROOM = 12,        /* fewer slots are lent than the index uses */
+    GR_NOT_FIT = 13,           /* the load demands that the rule fit the header's count of forms: there is none, or it does not */
     GR_BAD_SPAN = 17           /* a span of counts that ends before it begins, or of over 1,000,000 */
 };
 
@@ -81,21 +82,27 @@ typedef struct gr_head {
     size_t root;
 } gr_head;
 
-/* What lookups need beside the file: 6,712 bytes. The rule is nodes: codes, two fields each, and values. */
+/* What lookups need beside the file, and the header's count of forms, which they do not look at: 6,728 bytes. The rule is nodes: codes, two
+ * fields each, and values. Where counted is 1 forms is the count, else both are 0. */
 typedef struct gr_record {
     gr_head head;
     uint64_t values[512];
     uint16_t places[1024];
     uint8_t codes[512];
+    uint64_t forms;
+    uint32_t counted;
 } gr_record;
 
 /* A load's number, and the head of its record: that of the empty catalog where the number is not 0. Where a load was refused, side is the
- * side that failed, and where entered is 1, entry is the entry, counted from 0; the whole file names neither, a forced rule its side only. */
+ * side that failed, and where entered is 1, entry is the entry, counted from 0; the whole file names neither, a forced rule its side only.
+ * Where counted is 1, forms is the header's count of forms. */
 typedef struct gr_loaded {
     uint32_t number;
     uint32_t side;
     uint32_t entered;
+    uint32_t counted;
     size_t entry;
+    uint64_t forms;
     gr_head head;
 } gr_loaded;
 
@@ -163,12 +170,14 @@ typedef struct gr_explained {
 #define GR_LAYOUT(name, holds) typedef char gr_layout_of_##name[(holds) ? 1 : -1]
 GR_LAYOUT(size_t, sizeof(size_t) == 8);
 GR_LAYOUT(gr_head, sizeof(gr_head) == 56);
-GR_LAYOUT(gr_record, sizeof(gr_record) == 6712);
+GR_LAYOUT(gr_record, sizeof(gr_record) == 6728);
 GR_LAYOUT(gr_record_values, offsetof(gr_record, values) == 56);
 GR_LAYOUT(gr_record_places, offsetof(gr_record, places) == 56 + 4096);
 GR_LAYOUT(gr_record_codes, offsetof(gr_record, codes) == 56 + 4096 + 2048);
-GR_LAYOUT(gr_loaded, sizeof(gr_loaded) == 80);
+GR_LAYOUT(gr_record_forms, offsetof(gr_record, forms) == 56 + 4096 + 2048 + 512);
+GR_LAYOUT(gr_loaded, sizeof(gr_loaded) == 88);
 GR_LAYOUT(gr_loaded_entry, offsetof(gr_loaded, entry) == 16);
+GR_LAYOUT(gr_loaded_forms, offsetof(gr_loaded, forms) == 24);
 GR_LAYOUT(gr_answer, sizeof(gr_answer) == 40);
 GR_LAYOUT(gr_range, sizeof(gr_range) == 24);
 GR_LAYOUT(gr_fit, sizeof(gr_fit) == 8);
@@ -181,7 +190,7 @@ GR_LAYOUT(gr_explained, sizeof(gr_explained) == 64);
  */
 gr_loaded gettext_c_empty(uint8_t codes[512], uint16_t places[1024], uint64_t values[512]);
 gr_loaded gettext_c_load(const uint8_t *file, size_t file_len, const uint8_t *rule, size_t rule_len, uint32_t forced, uint32_t standard,
-                         uint32_t utf8, uint8_t codes[512], uint16_t places[1024], uint64_t values[512]);
+                         uint32_t utf8, uint32_t fit, uint8_t codes[512], uint16_t places[1024], uint64_t values[512]);
 gr_answer gettext_c_gettext(const uint8_t *file, size_t file_len, const gr_head *head, uint32_t given, const uint8_t *context,
                             size_t context_len, const uint8_t *id, size_t id_len);
 gr_answer gettext_c_ngettext(const uint8_t *file, size_t file_len, const gr_head *head, const uint8_t codes[512],
@@ -221,11 +230,13 @@ typedef struct gr_text {
 /* Figures of a span: of forms 0 to 15, then of those above, then of the counts that meet a zero divisor. */
 enum { GR_ABOVE = 16, GR_ZERO = 17, GR_FIGURES = 18 };
 
-/* How to load. All zero, the default: no rule is forced, rules are read the Shipped way, and the charset label must be UTF-8's. */
+/* How to load. All zero, the default: no rule is forced, rules are read the Shipped way, the charset label must be UTF-8's, and the rule need
+ * not fit the header's count of forms. */
 typedef struct gr_options {
     const char *rule;        /* the plural rule instead of the header's, or null */
     enum gr_reading reading; /* how plural rules are read */
     int utf8;                /* not 0: the charset label is passed over; the texts must be UTF-8 all the same */
+    int fit;                 /* not 0: the rule has to fit the count of forms that the header gives, else GR_NOT_FIT */
 } gr_options;
 
 /* The name of a number, for people. */
@@ -244,6 +255,7 @@ static inline const char *gr_error_name(uint32_t number)
     case GR_ZERO_MODULUS: return "the plural expression divides by zero";
     case GR_BAD_RECORD: return "the record does not belong to the file";
     case GR_INDEX_ROOM: return "too few slots for the index";
+    case GR_NOT_FIT: return "the plural expression does not fit the number of forms in the header";
     case GR_BAD_SPAN: return "no span of at most 1000000 counts";
     default: return "no such number";
     }
@@ -298,6 +310,8 @@ static inline gr_text gr_text_of(gr_answer a, const void *file, const char *id, 
 static inline void gr_empty(gr_record *record)
 {
     record->head = gettext_c_empty(record->codes, record->places, record->values).head;
+    record->forms = 0;
+    record->counted = 0;
 }
 
 /* Loads into *record and tells how it went; where the number is not 0 the record is the empty catalog's, and side, entered and entry say
@@ -307,9 +321,12 @@ static inline gr_loaded gr_load_located(const void *file, size_t file_len, const
     const char *rule = options != NULL ? options->rule : NULL;
     uint32_t standard = options != NULL && options->reading == GR_STANDARD;
     uint32_t utf8 = options != NULL && options->utf8 != 0;
+    uint32_t fit = options != NULL && options->fit != 0;
     gr_loaded l = gettext_c_load(gr_bytes(file), gr_size(file, file_len), gr_bytes(rule), gr_length(rule), rule != NULL, standard, utf8,
-                                 record->codes, record->places, record->values);
+                                 fit, record->codes, record->places, record->values);
     record->head = l.head;
+    record->forms = l.forms;
+    record->counted = l.counted;
     return l;
 }
 

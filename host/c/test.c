@@ -24,6 +24,7 @@ static const gr_options *with(const char *rule, enum gr_reading reading)
     o.rule = rule;
     o.reading = reading;
     o.utf8 = 0;
+    o.fit = 0;
     return &o;
 }
 
@@ -112,6 +113,71 @@ static void places(void)
     CHECK(strcmp(gr_side_name(GR_HEADER), "header") == 0);
     CHECK(strcmp(gr_side_name(GR_RULE), "rule") == 0);
     CHECK(strcmp(gr_side_name(5), "no such side") == 0);
+}
+
+/* A catalog of one entry, the header with that Plural-Forms, in memory of just its size. */
+static uint8_t *headed(const char *forms, size_t *size)
+{
+    static const char name[] = "Plural-Forms:";
+    size_t len = strlen(name) + strlen(forms);
+    *size = 45 + len + 1;
+    uint8_t *p = malloc(*size);
+    if (p == NULL || len > 255) {
+        exit(2);
+    }
+    memcpy(p, g_bytes, 44);
+    p[28] = 0;
+    p[36] = (uint8_t)len;
+    p[40] = 45;
+    p[44] = 0;
+    memcpy(p + 45, name, strlen(name));
+    memcpy(p + 45 + strlen(name), forms, strlen(forms));
+    p[45 + len] = 0;
+    return p;
+}
+
+/* A header's count: whether it is given and which, and the number of a load that demands a fit, whose record keeps the count or has none. */
+static int counts(const char *forms, const char *rule, uint32_t counted, uint64_t count, uint32_t number)
+{
+    size_t size;
+    uint8_t *f = headed(forms, &size);
+    gr_options o = {rule, GR_STANDARD, 0, 0};
+    gr_record r;
+    gr_loaded l = gr_load_located(f, size, &o, &r);
+    int ok = l.number == GR_OK && l.counted == counted && l.forms == count && r.counted == counted && r.forms == count;
+    o.fit = 1;
+    l = gr_load_located(f, size, &o, &r);
+    ok = ok && l.number == number && l.side == GR_NO_SIDE && l.entered == 0 && l.entry == 0 && r.counted == l.counted && r.forms == l.forms;
+    ok = ok && (number == GR_OK ? r.counted == counted && r.forms == count : r.counted == 0 && r.forms == 0 && r.head.length == 0);
+    free(f);
+    return ok;
+}
+
+static void counts_of_forms(void)
+{
+    CHECK(counts("nplurals=2; plural=n != 1;", NULL, 1, 2, GR_OK));
+    CHECK(counts("n_plurals=3; plural=n%3", NULL, 1, 3, GR_OK));
+    CHECK(counts("nplurals=2; plural=n%3", NULL, 1, 2, GR_NOT_FIT));
+    CHECK(counts("plural=n != 1", NULL, 0, 0, GR_NOT_FIT));
+    CHECK(counts("nplurals=+2; plural=0", NULL, 0, 0, GR_NOT_FIT));
+    CHECK(counts("nplurals=18446744073709551616", NULL, 0, 0, GR_NOT_FIT));
+    CHECK(counts("nplurals=18446744073709551615; plural=n-n%2", NULL, 1, UINT64_MAX, GR_NOT_FIT));
+    CHECK(counts("nplurals=0; plural=0", NULL, 1, 0, GR_NOT_FIT));
+    CHECK(counts("nplurals=00000000000000000000000002", NULL, 1, 2, GR_OK));
+    CHECK(counts("nplurals=1;nplurals=2;nplurals=x", NULL, 1, 2, GR_OK));
+    CHECK(counts("nplurals=2;plural=(", "n>1", 1, 2, GR_OK));
+    CHECK(counts("nplurals=1;plural=0", "n>1", 1, 1, GR_NOT_FIT));
+    /* no header, and a refusal of another test first */
+    uint8_t *g = copy(50);
+    gr_options o = {NULL, GR_SHIPPED, 0, 1};
+    CHECK(at(g, 50, &o, GR_NOT_FIT, GR_NO_SIDE, 0, 0));
+    CHECK(at(g, 49, &o, GR_EOF, GR_TRANSLATION, 1, 0));
+    free(g);
+    gr_record r;
+    memset(&r, 255, sizeof r);
+    gr_empty(&r);
+    CHECK(r.counted == 0 && r.forms == 0);
+    CHECK(strcmp(gr_error_name(GR_NOT_FIT), "the plural expression does not fit the number of forms in the header") == 0);
 }
 
 static void lookups(void)
@@ -290,7 +356,7 @@ static void options_and_names(void)
     static const char header[] = "Content-Type: text/plain; charset=latin1\n";
     uint8_t file[28 + 16 + 1 + sizeof header];
     gr_record r;
-    gr_options o = {NULL, GR_SHIPPED, 0};
+    gr_options o = {NULL, GR_SHIPPED, 0, 0};
     memcpy(file, g_bytes, 44);
     file[28] = 0;                          /* the id of entry 0 is empty .. */
     file[36] = (uint8_t)(sizeof header - 1); /* .. so its translation is the header */
@@ -406,6 +472,7 @@ int main(void)
     longest_rules();
     loads_and_refusals();
     places();
+    counts_of_forms();
     lookups();
     altered_records();
     indexes();

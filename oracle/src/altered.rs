@@ -52,7 +52,7 @@ fn calculated(op: usize, x: (u64, u64), y: (u64, u64)) -> Option<(u64, u64)> {
 }
 
 // The lowest and the highest value; none where the rule is not rated.
-fn range(r: &Record, p: usize) -> Option<(u64, u64)> {
+pub fn range(r: &Record, p: usize) -> Option<(u64, u64)> {
     let node = r.node(p)?;
     let under = node.parts().into_iter().map(|part| match part {
         Part::N => Some((0, u64::MAX)),
@@ -198,7 +198,9 @@ impl Oracle {
         }
         alter_rule(rng, &mut record);
         alter_tables(rng, &mut record, bytes.len());
-        let mut ours = Ours { number: 0, side: 0, entry: None, catalog: self.lent.put_record(&record), slots: None };
+        // no lookup looks at the count of forms
+        (record.counted, record.forms) = (rng.next() as u32, rng.next());
+        let mut ours = Ours { number: 0, side: 0, entry: None, forms: None, catalog: self.lent.put_record(&record), slots: None };
         self.stats.cases += 1;
         let told = |what: String| Err(format!("{what}\n  file {}\n  tables {:?}", hex(&bytes), record.head));
 

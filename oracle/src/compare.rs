@@ -1,6 +1,6 @@
 // One input given to both, and the answers held together. What differs is explained by a rule of document 01's domain, or it is a
 // difference; a difference is made smaller as long as it stays one.
-use crate::located;
+use crate::{forms, located};
 use crate::make::{self, Entry, COUNTS};
 use crate::rattle::{cost, empty, Answer, Lent, Ours, Record};
 use crate::rng::Rng;
@@ -117,7 +117,7 @@ pub struct Stats {
     pub indexes: u64,
     // refused loads by the side that they name, 0 none
     pub places: [u64; 5],
-    pub numbers: [u64; 12],
+    pub numbers: [u64; 14],
     // reasons by their kind, 1 to 6
     pub reasons: [u64; 7],
     // each kind of explained difference: how often, and its shortest header or rule
@@ -162,7 +162,7 @@ pub struct Oracle {
     tree: String,
 }
 
-fn six(b: char) -> bool {
+pub fn six(b: char) -> bool {
     matches!(b, '\t'..='\r' | ' ')
 }
 
@@ -207,7 +207,7 @@ pub fn count(file: &[u8], big: bool) -> usize {
 }
 
 // The header, where entry 0 has one.
-fn header_of(file: &[u8]) -> Option<&str> {
+pub fn header_of(file: &[u8]) -> Option<&str> {
     let big = order(file)?;
     if count(file, big) == 0 {
         return None;
@@ -377,6 +377,10 @@ impl Oracle {
         }
         let ours = self.lent.load(file, rule, false, utf8);
         self.located(bytes, &ours, forced.is_some(), utf8)?;
+        let kept = forms::kept(bytes, ours.number);
+        if ours.forms != kept {
+            return Err(format!("count {:?}, by the words {kept:?}", ours.forms));
+        }
         let theirs = theirs(twin, forced.is_some());
         match &theirs {
             Theirs::Loads(catalog) if ours.number == 0 => {
@@ -478,7 +482,7 @@ impl Oracle {
     // The empty catalog answers with the caller's own texts.
     pub fn empty_catalog(&mut self, rng: &mut Rng) -> Result<(), String> {
         let record = self.empty;
-        let ours = Ours { number: 0, side: 0, entry: None, catalog: &record, slots: None };
+        let ours = Ours { number: 0, side: 0, entry: None, forms: None, catalog: &record, slots: None };
         let file = self.lent.file.put(b"", false);
         for key in [&b""[..], b"a", b"a\x04b"] {
             self.ask(rng, file, b"", &ours, &Catalog::empty(), key, &COUNTS)?;

@@ -2,6 +2,7 @@
 // static library, and every answer is compared. The last line of each part is its summary; the exit status is 1 where they differ.
 mod altered;
 mod compare;
+mod forms;
 mod indexed;
 mod located;
 mod make;
@@ -27,7 +28,9 @@ const USAGE: &str = "usage: oracle run --seed S --cases N [--from I] [--threads 
        oracle spaced --seed S --cases N [--threads T]
        oracle altered --seed S --cases N [--threads T]
        oracle bracketed --nodes K [--threads T]
+       oracle counts --seed S --cases N [--threads T]
        oracle real DIR.. [--keys K] [--threads T]
+       oracle forms DIR..
        oracle sample";
 
 extern "C" {
@@ -226,6 +229,29 @@ fn real(threads: u64, folders: &[String], keys: usize) -> bool {
     summary(&part, &stats, differ, start)
 }
 
+// How many real catalogs carry a count of forms, and which rules do not fit theirs: the table of docs/DIFFERENCES.md.
+fn real_forms(folders: &[String]) -> bool {
+    let mut paths = Vec::new();
+    for folder in folders {
+        catalogs(Path::new(folder), &mut paths);
+    }
+    let mut oracle = Oracle::new();
+    let mut differ = 0;
+    let readings = [("Shipped", false), ("Standard", true)].map(|(name, standard)| {
+        let mut real = forms::Real::default();
+        for path in &paths {
+            let Ok(file) = std::fs::read(path) else { continue };
+            if let Err(e) = oracle.real_forms(&file, standard, &mut real) {
+                differ += 1;
+                println!("DIFFERS {}: {e}", path.display());
+            }
+        }
+        (name, real)
+    });
+    print!("{}", forms::table(paths.len(), &readings));
+    differ == 0
+}
+
 fn utf8(threads: u64, up_to: u32) -> bool {
     const EDGES: [u8; 28] = [
         0x00, 0x41, 0x7f, 0x80, 0x8f, 0x90, 0x9f, 0xa0, 0xbf, 0xc0, 0xc1, 0xc2, 0xdf, 0xe0, 0xe1, 0xec, 0xed, 0xee, 0xef, 0xf0,
@@ -364,6 +390,18 @@ fn main() {
                 oracle.rule(&mut rng, &rule, &COUNTS).map_err(|e| shrink::rule(oracle, &mut rng, rule, &COUNTS, e))
             });
             summary(&format!("rules, all of up to {longest} bytes"), &stats, differ, start)
+        }
+        Some("counts") => {
+            let (Some(seed), Some(cases)) = (value(&words, "--seed"), value(&words, "--cases")) else {
+                eprintln!("{USAGE}");
+                exit(2)
+            };
+            let (stats, differ) = many(threads, 0, cases, |oracle, i| oracle.counts(&mut Rng::new(seed, i)));
+            summary(&format!("counts of forms, seed {seed}"), &stats, differ, start)
+        }
+        Some("forms") => {
+            let folders: Vec<String> = words[1..].iter().filter(|word| Path::new(word).is_dir()).cloned().collect();
+            real_forms(&folders)
         }
         Some("utf8") => utf8(threads, value(&words, "--up-to").unwrap_or(3) as u32),
         Some("real") => {

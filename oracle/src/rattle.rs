@@ -65,6 +65,7 @@ pub struct Ours<'a> {
     pub number: u32,
     pub side: u32,
     pub entry: Option<usize>,
+    pub forms: Option<u64>,
     pub catalog: &'a Record,
     pub slots: Option<&'a [u32]>,
 }
@@ -104,14 +105,26 @@ impl Lent {
 
     // The record is written where the oracle may write, and read by lookups where nobody may.
     pub fn load<'a>(&self, file: &'a [u8], rule: Option<&'a [u8]>, standard: bool, utf8: bool) -> Ours<'a> {
+        self.load_by(file, rule, standard, utf8, false)
+    }
+
+    // The same under the demand that the rule fit the count.
+    pub fn load_fitting<'a>(&self, file: &'a [u8], rule: Option<&'a [u8]>, standard: bool, utf8: bool) -> Ours<'a> {
+        self.load_by(file, rule, standard, utf8, true)
+    }
+
+    fn load_by<'a>(&self, file: &'a [u8], rule: Option<&'a [u8]>, standard: bool, utf8: bool, fit: bool) -> Ours<'a> {
         let at = self.record.size - std::mem::size_of::<Record>();
         unsafe {
             let out = &mut *(self.record.write.add(at) as *mut Record);
-            let loaded = ffi::load(file, rule, standard, utf8, out);
+            let loaded = ffi::load(file, rule, standard, utf8, fit, out);
             // an index beside "none", or another flag than 0 and 1, would be a second way to say a place
             assert!(loaded.entered == 1 || (loaded.entered, loaded.entry) == (0, 0));
             let entry = (loaded.entered == 1).then_some(loaded.entry);
-            Ours { number: loaded.number, side: loaded.side, entry, catalog: &*(self.record.read.add(at) as *const Record), slots: None }
+            assert!(loaded.counted == 1 || (loaded.counted, loaded.forms) == (0, 0));
+            let forms = (loaded.counted == 1).then_some(loaded.forms);
+            let catalog = &*(self.record.read.add(at) as *const Record);
+            Ours { number: loaded.number, side: loaded.side, entry, forms, catalog, slots: None }
         }
     }
 

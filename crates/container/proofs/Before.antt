@@ -1,4 +1,5 @@
--- Forgetting the place gives the answer of before: the same numbers in the same order, the same tables and the same rule. Assumes nothing.
+-- Forgetting the place and the count gives the answer of before, where no fit is asked for: the same numbers in the same order, the same
+-- tables and the same rule. Assumes nothing.
 use Prim.Native.Nat.{ℕ, zero, suc}
 use mathlib.Core.Path.{_≡_, refl, sym, ap, _∙_}
 use mathlib.Core.Bool.{Bool, true, false, _||_}
@@ -22,6 +23,7 @@ use Rattle.header_fields.specs.declared.Place.the-variants as place
 use Rattle.header.specs.Header.{metadata}
 use Rattle.header.specs.declared.Metadata.{Metadata}
 use Rattle.header.specs.declared.Metadata.the-variants as metadata
+use Rattle.header_forms.specs.declared.Forms.{Forms}
 use Rattle.container_layout.specs.Mo.{segments}
 use Rattle.container_layout.specs.declared.Tables.{Tables}
 use Rattle.container_messages.specs.Messages.{readAt}
@@ -32,7 +34,7 @@ use Rattle.container_head.specs.Head.{headOf}
 use Rattle.container_head.specs.declared.Head.{Head}
 use Rattle.container_head.specs.declared.Head.the-variants as head
 use Rattle.container_rule.specs.Rule as choice
-use Rattle.container_rule.specs.Rule.{labelOk, segment0, ruleAt, ruleIn, forcedRule}
+use Rattle.container_rule.specs.Rule.{labelOk, segment0, ruleAt, ruleIn, forcedRule, fileForms}
 use Rattle.container_rule.specs.declared.First.{First}
 use Rattle.container_rule.specs.declared.First.the-variants as first
 use Rattle.container.specs.Catalog as catalog
@@ -48,7 +50,7 @@ forget (rule t) = hands t
 forget (norule r) = stops (r .error)
 
 abbrev pub forgetting : catalog.Answer → Answer
-forgetting (catalog.accepted t r) = accepted t r
+forgetting (catalog.accepted t r n) = accepted t r
 forgetting (catalog.refused r) = refused (r .error)
 
 by-cases : (b : Bool) (x y : Parse) → forget (elim b [ true ↦ x | false ↦ y ]) ≡ elim b [ true ↦ forget x | false ↦ forget y ]
@@ -71,18 +73,18 @@ parsed-same w reading s =
     ∙ ap (λ (x : Stage). elim (all isAscii t) [ true ↦ x | false ↦ stops PluralParsing ]) (made-same w (readAs reading t)))
 
 module _ (o : Options) where
-  ruled-same : (h : List ℕ) (r : Tree) (p : Place) → forget (ruleIn (o .reading) h r (first.Rule p)) ≡ ruled o h r p
-  ruled-same h r (place.At a l) = parsed-same inRule (o .reading) (take l (drop a h))
-  ruled-same h r place.Absent = refl
+  ruled-same : (h : List ℕ) (r : Tree) (p : Place) (n : Forms) → forget (ruleIn (o .reading) h r (first.Rule p n)) ≡ ruled o h r p
+  ruled-same h r (place.At a l) n = parsed-same inRule (o .reading) (take l (drop a h))
+  ruled-same h r place.Absent n = refl
 
-  known-same : (h : List ℕ) (r : Tree) (b : Bool) (p : Place)
-      → forget (ruleIn (o .reading) h r (elim b [ true ↦ first.Rule p | false ↦ first.Refused (at inHeader UnknownEncoding) ])) ≡ elim b [ true ↦ ruled o h r p | false ↦ stops UnknownEncoding ]
-  known-same h r true p = ruled-same h r p
-  known-same h r false p = refl
+  known-same : (h : List ℕ) (r : Tree) (b : Bool) (p : Place) (n : Forms)
+      → forget (ruleIn (o .reading) h r (elim b [ true ↦ first.Rule p n | false ↦ first.Refused (at inHeader UnknownEncoding) ])) ≡ elim b [ true ↦ ruled o h r p | false ↦ stops UnknownEncoding ]
+  known-same h r true p n = ruled-same h r p n
+  known-same h r false p n = refl
 
   headed-same : (h : List ℕ) (r : Tree) (m : Metadata) → forget (ruleIn (o .reading) h r (choice.headed (o .forced) (o .utf8) h m)) ≡ headed o h r m
   headed-same h r metadata.Malformed = refl
-  headed-same h r (metadata.Fields label p) = known-same h r (o .utf8 || labelOk h label) (elim (o .forced) [ true ↦ place.Absent | false ↦ p ])
+  headed-same h r (metadata.Fields label p n) = known-same h r (o .utf8 || labelOk h label) (elim (o .forced) [ true ↦ place.Absent | false ↦ p ]) n
 
   entry-same : (s : List ℕ) (r : Tree) (q : Read) → forget (entryStep o s r q) ≡ entryOf o s r (forgetRead q)
   unfolding entryStep header ruleAt
@@ -101,12 +103,12 @@ module _ (o : Options) where
       then-same (entryStep o s r (readAt s t i)) (catalog.entriesFrom o s t k (suc i)) (entriesFrom o s t k (suc i)) (entries-same s t k (suc i))
       ∙ ap (λ (q : Stage). andThen q (entriesFrom o s t k (suc i))) (entry-same s r (readAt s t i) ∙ ap (entryOf o s r) (read-forgotten s t i))
 
-  answered-same : (t : Tables) (p : Parse) → forgetting (catalog.answered t p) ≡ before.answered t (forget p)
-  answered-same t (rule r) = refl
-  answered-same t (norule e) = refl
+  answered-same : (t : Tables) (n : Forms) (p : Parse) → forgetting (catalog.answered t n p) ≡ before.answered t (forget p)
+  answered-same t n (rule r) = refl
+  answered-same t n (norule e) = refl
 
   catalog-same : (s : List ℕ) (r : Tree) (h : Head) → forgetting (catalog.catalog o s r h) ≡ before.catalog o s r h
-  catalog-same s r (head.Fields t) = answered-same t (catalog.entriesFrom o s t (t .count) 0 r) ∙ ap (before.answered t) (entries-same s t (t .count) 0 r)
+  catalog-same s r (head.Fields t) = answered-same t (fileForms s t) (catalog.entriesFrom o s t (t .count) 0 r) ∙ ap (before.answered t) (entries-same s t (t .count) 0 r)
   catalog-same s r (head.Refused e) = refl
 
   with-same : (s : List ℕ) (p : Parse) → forgetting (catalog.loadWith o s p) ≡ before.loadWith o s (forget p)
@@ -118,9 +120,14 @@ module _ (o : Options) where
       by-cases (o .forced) (plurals.parsed Forced (o .reading) f) (rule defaultTree)
       ∙ ap (λ (x : Stage). elim (o .forced) [ true ↦ x | false ↦ hands defaultTree ]) (parsed-same Forced (o .reading) f)
 
-  pub forgotten : (f s : List ℕ) → forgetting (catalog.load o f s) ≡ load o f s
-  unfolding catalog.load load
-  forgotten f s = with-same s (forcedRule (o .forced) (o .reading) f) ∙ ap (before.loadWith o s) (forced-same f)
+  opened-same : (f s : List ℕ) → forgetting (catalog.opened o f s) ≡ load o f s
+  unfolding catalog.opened load
+  opened-same f s = with-same s (forcedRule (o .forced) (o .reading) f) ∙ ap (before.loadWith o s) (forced-same f)
+
+  -- with the option off the last test is none
+  pub forgotten : o .fit ≡ false → (f s : List ℕ) → forgetting (catalog.load o f s) ≡ load o f s
+  unfolding catalog.load
+  forgotten e f s = ap (λ (b : Bool). forgetting (catalog.fitted b (catalog.opened o f s))) e ∙ opened-same f s
 
 -- the number of an answer of before, and so of every load: what a host is told is what it was told
 abbrev pub numberIn : Answer → ℕ
@@ -128,8 +135,8 @@ numberIn (accepted t r) = 0
 numberIn (refused e) = numberOf e
 
 number-forgets : (a : catalog.Answer) → outcomeNumber (outcomeOf a) ≡ numberIn (forgetting a)
-number-forgets (catalog.accepted t r) = refl
+number-forgets (catalog.accepted t r n) = refl
 number-forgets (catalog.refused r) = refl
 
-pub same-number : (o : Options) (f s : List ℕ) → outcomeNumber (outcomeOf (catalog.load o f s)) ≡ numberIn (load o f s)
-same-number o f s = number-forgets (catalog.load o f s) ∙ ap numberIn (forgotten o f s)
+pub same-number : (o : Options) → o .fit ≡ false → (f s : List ℕ) → outcomeNumber (outcomeOf (catalog.load o f s)) ≡ numberIn (load o f s)
+same-number o e f s = number-forgets (catalog.load o f s) ∙ ap numberIn (forgotten o e f s)

@@ -7,20 +7,26 @@ use mathlib.Core.Logic.{_↔_}
 use mathlib.Core.List.{List, [], _∷_}
 use native.Mathlib.Omega.{arith}
 use lib.ListN.{length, take, drop}
+use borrow.Author.Tests.{lt-ltb, ltb-true}
 use Rattle.text.proofs.Tests.{taken, left, by-test}
 use Rattle.refusal.specs.Places.{at, inHeader, inRule}
 use Rattle.refusal.specs.declared.Refusal.{Refusal}
-use Rattle.refusal.specs.declared.Where.the-variants.{Forced}
-use Rattle.refusal.specs.declared.Error.the-variants.{MalformedMetadata, UnknownEncoding}
+use Rattle.refusal.specs.declared.Where.the-variants.{File, Forced}
+use Rattle.refusal.specs.declared.Error.the-variants.{MalformedMetadata, UnknownEncoding, NotFit}
 use Rattle.refusal.specs.declared.Outcome.{Outcome}
 use Rattle.refusal.specs.declared.Outcome.the-variants as outcome
 use Rattle.rules.specs.Tree.{Tree, defaultTree}
+use Rattle.rules.specs.Range.{rateTree, fitsRange}
+use Rattle.rules.specs.declared.Rating.{Rating}
+use Rattle.rules.specs.declared.Rating.the-variants as rating
 use Rattle.reading_rule.specs.Plurals.{Parse, rule, norule, parsed}
 use Rattle.header_fields.specs.declared.Place.{Place}
 use Rattle.header_fields.specs.declared.Place.the-variants as place
 use Rattle.header.specs.Header.{metadata}
 use Rattle.header.specs.declared.Metadata.{Metadata}
 use Rattle.header.specs.declared.Metadata.the-variants.{Malformed, Fields}
+use Rattle.header_forms.specs.declared.Forms.{Forms}
+use Rattle.header_forms.specs.declared.Forms.the-variants as forms
 use Rattle.container_layout.specs.Mo.{string, original, id, segments}
 use Rattle.container_layout.specs.declared.Tables.{Tables}
 use Rattle.container_layout.specs.declared.Stretch.the-variants as stretch
@@ -33,18 +39,25 @@ use Rattle.container_head.specs.Head.{headOf}
 use Rattle.container_head.specs.declared.Head.{Head}
 use Rattle.container_head.specs.declared.Head.the-variants as head
 use Rattle.container_head.proofs.Words.{head-words, words-head}
-use Rattle.container_rule.specs.Rule.{forcedRule, labelOk, headed, ruleAt, segment0, ruleIn}
+use Rattle.container_rule.specs.Rule.{forcedRule, labelOk, headed, ruleAt, segment0, ruleIn, countOf, formsRead, formsFrom, fileForms}
 use Rattle.container_rule.specs.declared.First.{First}
 use Rattle.container_rule.specs.declared.First.the-variants as first
-use Rattle.container.specs.Catalog.{andThen, header, entryStep, entriesFrom, Answer, accepted, refused, answered, catalog, loadWith, load}
-use Rattle.container.specs.Accepts.{Headed, IsHeader, Fine, Counts, forced, given, absent, headless, SomeFine, Accepts, Fails, by-forced, by-head, by-entry}
+use Rattle.container.specs.Catalog.{andThen, header, entryStep, entriesFrom, Answer, accepted, refused, answered, catalog, loadWith, opened, fits, fitted, load}
+use Rattle.container.specs.Accepts.{Headed, IsHeader, Fine, Counts, forced, given, absent, headless, SomeFine, Carries, in-header, no-header, Sound, Fits, Accepts, Fails, by-forced, by-head, by-entry, by-fit}
 use Rattle.container.specs.Private.{restFrom}
 use Rattle.container.specs.declared.Options.{Options}
-use Rattle.container.proofs.Accepted.{Whole, accepted-whole, every-passed}
+use Rattle.container.proofs.Accepted.{Whole, accepted-whole, opened-passed, accepted-fitted}
 use Rattle.container.proofs.Stages.{stepOf, rest-steps}
 
 never : {e : Refusal} {r : Tree} → norule e ≡ rule r → ⊥
 never e = let z : _≡_ {A = ℕ} 0 1 = cc in omega arith
+
+no-truth : false ≡ true → ⊥
+no-truth e = let z : _≡_ {A = ℕ} 0 1 = cc in omega arith
+
+was-refused : (b : Bool) (e : Refusal) → fitted b (refused e) ≡ refused e
+was-refused true e = refl
+was-refused false e = refl
 
 same-rule : {u r : Tree} → rule u ≡ rule r → u ≡ r
 same-rule e = cc
@@ -70,18 +83,18 @@ record HandsOn (o : Options) (h : List ℕ) (r u : Tree) : Type 0 where
 module _ (o : Options) (h : List ℕ) (r u : Tree) where
   by-fields : (m : Metadata) → metadata h ≡ m → ruleIn (o .reading) h r (headed (o .forced) (o .utf8) h m) ≡ rule u → HandsOn o h r u
   by-fields Malformed e g = absurd (never g)
-  by-fields (Fields label p) e g =
+  by-fields (Fields label p n) e g =
       by-test (HandsOn o h r u) (o .utf8 || labelOk h label)
-      (λ k. let w : ruleIn (o .reading) h r (first.Rule (elim (o .forced) [ true ↦ place.Absent | false ↦ p ])) ≡ rule u =
-      sym (ap (ruleIn (o .reading) h r) (taken (first.Rule (elim (o .forced) [ true ↦ place.Absent | false ↦ p ])) (first.Refused (at inHeader UnknownEncoding)) k)) ∙ g in
+      (λ k. let w : ruleIn (o .reading) h r (first.Rule (elim (o .forced) [ true ↦ place.Absent | false ↦ p ]) n) ≡ rule u =
+      sym (ap (ruleIn (o .reading) h r) (taken (first.Rule (elim (o .forced) [ true ↦ place.Absent | false ↦ p ]) n) (first.Refused (at inHeader UnknownEncoding)) k)) ∙ g in
       record {
         lies = p;
-        fine = record { label = label; fields = e; known = k };
-        if-forced = λ t. same-rule (sym (sym (ap (λ (q : Place). ruleIn (o .reading) h r (first.Rule q)) (taken place.Absent p t)) ∙ w));
-        if-given = λ a l t q. sym (ap (λ (x : Place). ruleIn (o .reading) h r (first.Rule x)) (left place.Absent p t ∙ q)) ∙ w;
-        if-absent = λ t q. same-rule (sym (sym (ap (λ (x : Place). ruleIn (o .reading) h r (first.Rule x)) (left place.Absent p t ∙ q)) ∙ w));
+        fine = record { label = label; forms = n; fields = e; known = k };
+        if-forced = λ t. same-rule (sym (sym (ap (λ (q : Place). ruleIn (o .reading) h r (first.Rule q n)) (taken place.Absent p t)) ∙ w));
+        if-given = λ a l t q. sym (ap (λ (x : Place). ruleIn (o .reading) h r (first.Rule x n)) (left place.Absent p t ∙ q)) ∙ w;
+        if-absent = λ t q. same-rule (sym (sym (ap (λ (x : Place). ruleIn (o .reading) h r (first.Rule x n)) (left place.Absent p t ∙ q)) ∙ w));
       })
-      (λ k. absurd (never (sym (ap (ruleIn (o .reading) h r) (left (first.Rule (elim (o .forced) [ true ↦ place.Absent | false ↦ p ])) (first.Refused (at inHeader UnknownEncoding)) k)) ∙ g)))
+      (λ k. absurd (never (sym (ap (ruleIn (o .reading) h r) (left (first.Rule (elim (o .forced) [ true ↦ place.Absent | false ↦ p ]) n) (first.Refused (at inHeader UnknownEncoding)) k)) ∙ g)))
 
   hands-on : header o h r ≡ rule u → HandsOn o h r u
   unfolding header ruleAt
@@ -89,17 +102,17 @@ module _ (o : Options) (h : List ℕ) (r u : Tree) where
 
 -- and back: a fine header hands on
 module _ (o : Options) (h : List ℕ) (r : Tree) {p : Place} (w : Fine o h p) where
-  at-rule : header o h r ≡ ruleIn (o .reading) h r (first.Rule (elim (o .forced) [ true ↦ place.Absent | false ↦ p ]))
+  at-rule : header o h r ≡ ruleIn (o .reading) h r (first.Rule (elim (o .forced) [ true ↦ place.Absent | false ↦ p ]) (w .forms))
   unfolding header ruleAt
   at-rule =
       ap (λ (m : Metadata). ruleIn (o .reading) h r (headed (o .forced) (o .utf8) h m)) (w .fields)
-      ∙ ap (ruleIn (o .reading) h r) (taken (first.Rule (elim (o .forced) [ true ↦ place.Absent | false ↦ p ])) (first.Refused (at inHeader UnknownEncoding)) (w .known))
+      ∙ ap (ruleIn (o .reading) h r) (taken (first.Rule (elim (o .forced) [ true ↦ place.Absent | false ↦ p ]) (w .forms)) (first.Refused (at inHeader UnknownEncoding)) (w .known))
 
   forced-on : o .forced ≡ true → header o h r ≡ rule r
-  forced-on t = at-rule ∙ ap (λ (q : Place). ruleIn (o .reading) h r (first.Rule q)) (taken place.Absent p t)
+  forced-on t = at-rule ∙ ap (λ (q : Place). ruleIn (o .reading) h r (first.Rule q (w .forms))) (taken place.Absent p t)
 
-  given-on : o .forced ≡ false → {q : Place} → p ≡ q → header o h r ≡ ruleIn (o .reading) h r (first.Rule q)
-  given-on t e = at-rule ∙ ap (λ (q : Place). ruleIn (o .reading) h r (first.Rule q)) (left place.Absent p t ∙ e)
+  given-on : o .forced ≡ false → {q : Place} → p ≡ q → header o h r ≡ ruleIn (o .reading) h r (first.Rule q (w .forms))
+  given-on t e = at-rule ∙ ap (λ (q : Place). ruleIn (o .reading) h r (first.Rule q (w .forms))) (left place.Absent p t ∙ e)
 
 -- an entry has its facts in one way only, and a file one header
 module _ (s : List ℕ) (t : Tables) where
@@ -136,14 +149,35 @@ module _ (s : List ℕ) (t : Tables) where
       ap (λ (a : Parse). andThen a (entriesFrom o s t k (suc i))) (message-step o r i e (λ z. omega (arith, e .named z)))
       ∙ rest-good o k (suc i) r (omega arith) (λ j l m. g j (omega arith) (omega arith))
 
-module _ (o : Options) (f s : List ℕ) (t : Tables) (r : Tree) where
+  -- the count of the file: that of its header, or none
+  header-forms : {h : List ℕ} → IsHeader s t h → {label p : Place} {n : Forms} → metadata h ≡ Fields label p n → fileForms s t ≡ n
+  unfolding fileForms
+  header-forms {h} w {label} {p} {n} g = by-count (t .count) refl
+    where
+      by-count : (k : ℕ) → t .count ≡ k → formsFrom s t k ≡ n
+      by-count zero c = absurd (omega (arith, w .some))
+      by-count (suc k) c = ap (formsRead s) (header-read w) ∙ ap (λ (x : List ℕ). countOf (metadata x)) (sym (w .is)) ∙ ap countOf g
+
+  none-forms : t .count ≡ 0 → fileForms s t ≡ forms.Absent
+  unfolding fileForms
+  none-forms c = ap (formsFrom s t) c
+
+  message-forms : 0 < t .count → (g : Good s t 0) → (id (original s (g .at) (g .len)) ≡ [] → ⊥) → fileForms s t ≡ forms.Absent
+  unfolding fileForms
+  message-forms l g m = by-count (t .count) refl
+    where
+      by-count : (k : ℕ) → t .count ≡ k → formsFrom s t k ≡ forms.Absent
+      by-count zero c = absurd (omega arith)
+      by-count (suc k) c = ap (formsRead s) (good-message s t 0 g m)
+
+module _ (o : Options) (f s : List ℕ) (t : Tables) (r : Tree) (n : Forms) where
   -- from the load to the facts
-  module _ (e : load o f s ≡ accepted t r) where
-    whole : Whole o f s t r
+  module _ (e : opened o f s ≡ accepted t r n) where
+    whole : Whole o f s t r n
     whole = accepted-whole o f s e
 
     good : (i : ℕ) → i < t .count → Good s t i
-    good i l = read-good s t i (every-passed o f s e i l)
+    good i l = read-good s t i (opened-passed o f s e i l)
 
     not-forced : o .forced ≡ false → whole .before ≡ defaultTree
     not-forced q = same-rule (sym (whole .forced-is) ∙ left (parsed Forced (o .reading) f) (rule defaultTree) q)
@@ -218,18 +252,30 @@ module _ (o : Options) (f s : List ℕ) (t : Tables) (r : Tree) where
             good-either s t 0 (good 0 l) (λ z. given-rule q l z)
             (λ n. headless q (λ h w. n (same-id s t (good 0 l) (w .good) ∙ w .empty)) (sym (message-left l n) ∙ not-forced q))
 
-    pub accepted-facts : Accepts o f s t r
-    accepted-facts =
+    carries : Carries s t n
+    carries = by-count (t .count) refl
+      where
+        by-count : (k : ℕ) → t .count ≡ k → Carries s t n
+        by-count zero c = no-header (λ h w. omega (arith, w .some)) (sym (whole .forms-are) ∙ none-forms s t c)
+        by-count (suc k) c =
+            let l : 0 < t .count = omega arith in
+            good-either s t 0 (good 0 l)
+            (λ z. let w = is-header l z in let g = handed w .fine in in-header w (g .fields ∙ ap (Fields (g .label) (handed w .lies)) (sym (header-forms s t w (g .fields)) ∙ whole .forms-are)))
+            (λ m. no-header (λ h w. m (same-id s t (good 0 l) (w .good) ∙ w .empty)) (sym (whole .forms-are) ∙ message-forms s t l (good 0 l) m))
+
+    pub opened-facts : Sound o f s t r n
+    opened-facts =
         let w = head-words s (whole .head-is) in
         record {
           headed = record { long = w .long; order = w .order; words = w .is; originals-in = w .inside .0; translations-in = w .inside .1 };
           entries = good;
           header = λ h x. record { place = handed x .lies; fine = handed x .fine };
           counts = counts;
+          carries = carries;
         }
 
   -- from the facts to the load
-  module _ (w : Accepts o f s t r) where
+  module _ (w : Sound o f s t r n) where
     head-is : headOf s ≡ head.Fields t
     head-is =
         let h = w .headed in
@@ -293,13 +339,60 @@ module _ (o : Options) (f s : List ℕ) (t : Tables) (r : Tree) where
     entries-from u (suc k) c x y =
         ap (λ (a : Parse). andThen a (entriesFrom o s t k 1)) (y (omega arith)) ∙ rest-good s t o k 1 r (omega arith) (λ j l m. w .entries j (omega arith))
 
-    pub facts-accepted : load o f s ≡ accepted t r
-    unfolding load
-    facts-accepted =
-        let b = begins (w .counts) in
-        ap (loadWith o s) (b .forced-is) ∙ ap (catalog o s (b .from)) head-is ∙ ap (answered t) (entries-from (b .from) (t .count) refl (b .if-none) (b .if-some))
+    -- the count is the header's, or there is none
+    its-forms : Carries s t n → fileForms s t ≡ n
+    its-forms (in-header x g) = header-forms s t x g
+    its-forms (no-header x e) = by-count (t .count) refl
+      where
+        by-count : (k : ℕ) → t .count ≡ k → fileForms s t ≡ n
+        by-count zero c = none-forms s t c ∙ sym e
+        by-count (suc k) c =
+            let l : 0 < t .count = omega arith in
+            let g = w .entries 0 l in
+            good-either s t 0 g
+            (λ z. absurd (x (segment0 (segments s (g .start) (g .size))) (record { some = l; good = g; empty = z; is = refl })))
+            (λ m. message-forms s t l g m ∙ sym e)
 
-  pub accepted-exactly : (load o f s ≡ accepted t r) ↔ Accepts o f s t r
+    pub facts-opened : opened o f s ≡ accepted t r n
+    unfolding opened
+    facts-opened =
+        let b = begins (w .counts) in
+        ap (loadWith o s) (b .forced-is) ∙ ap (catalog o s (b .from)) head-is
+        ∙ ap (answered t (fileForms s t)) (entries-from (b .from) (t .count) refl (b .if-none) (b .if-some)) ∙ ap (accepted t r) (its-forms (w .carries))
+
+  pub opened-exactly : (opened o f s ≡ accepted t r n) ↔ Sound o f s t r n
+  opened-exactly = (opened-facts, facts-opened)
+
+-- the last test
+module _ (r : Tree) where
+  rated-fits : (q : Rating) (k : ℕ) → rateTree r ≡ q → fitsRange q k ≡ true → Fits r (forms.Given k)
+  unfolding fitsRange
+  rated-fits (rating.Range l h) k e g = record { count = k; given = refl; lowest = l; highest = h; rated = e; below = ltb-true h k g }
+  rated-fits rating.Unrated k e g = absurd (no-truth g)
+
+  pub fits-facts : (n : Forms) → fits r n ≡ true → Fits r n
+  fits-facts (forms.Given k) e = rated-fits (rateTree r) k refl e
+  fits-facts forms.Absent e = absurd (no-truth e)
+
+  pub facts-fit : {n : Forms} → Fits r n → fits r n ≡ true
+  unfolding fitsRange
+  facts-fit w = ap (fits r) (w .given) ∙ ap (λ (q : Rating). fitsRange q (w .count)) (w .rated) ∙ lt-ltb (w .highest) (w .count) (w .below)
+
+module _ (o : Options) (f s : List ℕ) (t : Tables) (r : Tree) (n : Forms) where
+  accepted-facts : load o f s ≡ accepted t r n → Accepts o f s t r n
+  accepted-facts e =
+      let w = accepted-fitted o f s e in
+      record { sound = opened-facts o f s t r n (w .is); fitting = λ q. fits-facts r n (w .fitting q) }
+
+  facts-accepted : Accepts o f s t r n → load o f s ≡ accepted t r n
+  unfolding load
+  facts-accepted w = ap (fitted (o .fit)) (facts-opened o f s t r n (w .sound)) ∙ by-option (o .fit) (w .fitting)
+    where
+      by-option : (b : Bool) → (b ≡ true → Fits r n) → fitted b (accepted t r n) ≡ accepted t r n
+      by-option true x = taken _ _ (facts-fit r (x refl))
+      by-option false x = refl
+
+  pub accepted-exactly : (load o f s ≡ accepted t r n) ↔ Accepts o f s t r n
   accepted-exactly = (accepted-facts, facts-accepted)
 
 -- The refusals. The first of k entries from i on that does not hand on its rule: those before it do.
@@ -350,14 +443,14 @@ module _ (o : Options) (s : List ℕ) (t : Tables) (e : Refusal) where
       ∙ stopped j m (suc i) (w .from) u (w .rest) (ap (λ (k : ℕ). entryStep o s u (readAt s t k)) z ∙ q)
 
 module _ (o : Options) (f s : List ℕ) (e : Refusal) where
-  never-accepted : {t : Tables} {r : Tree} → accepted t r ≡ refused e → ⊥
+  never-accepted : {t : Tables} {r : Tree} {n : Forms} → accepted t r n ≡ refused e → ⊥
   never-accepted p = let z : _≡_ {A = ℕ} 0 1 = cc in omega arith
 
   same-refusal : {x : Refusal} → refused x ≡ refused e → x ≡ e
   same-refusal p = cc
 
   by-entries : {w : Tree} → forcedRule (o .forced) (o .reading) f ≡ rule w → {t : Tables} → headOf s ≡ head.Fields t → (a : Parse) → entriesFrom o s t (t .count) 0 w ≡ a
-      → answered t a ≡ refused e → Fails o f s e
+      → answered t (fileForms s t) a ≡ refused e → Fails o f s e
   by-entries p h (rule u) g q = absurd (never-accepted q)
   by-entries {w} p {t} h (norule x) g q =
       let y = stops o s t e (t .count) 0 w (g ∙ ap norule (same-refusal q)) in
@@ -372,21 +465,48 @@ module _ (o : Options) (f s : List ℕ) (e : Refusal) where
   by-rules (rule w) p q = by-heads p (headOf s) refl q
   by-rules (norule x) p q = by-forced (p ∙ ap norule (same-refusal q))
 
+  opened-fails : opened o f s ≡ refused e → Fails o f s e
+  unfolding opened
+  opened-fails q = by-rules (forcedRule (o .forced) (o .reading) f) refl q
+
+  -- the last test
+  by-fitted : (b : Bool) → o .fit ≡ b → (a : Answer) → opened o f s ≡ a → fitted b a ≡ refused e → Fails o f s e
+  by-fitted b p (refused x) q g = opened-fails (q ∙ sym (was-refused b x) ∙ g)
+  by-fitted false p (accepted t r n) q g = absurd (never-accepted g)
+  by-fitted true p (accepted t r n) q g =
+      by-test (Fails o f s e) (fits r n)
+      (λ y. absurd (never-accepted (sym (taken _ _ y) ∙ g)))
+      (λ y.
+      let z : refused (at File NotFit) ≡ refused e = sym (left _ _ y) ∙ g in
+      by-fit (opened-facts o f s t r n q) p (λ w. no-truth (sym y ∙ facts-fit r w)) (sym (same-refusal z)))
+
   refused-fails : load o f s ≡ refused e → Fails o f s e
   unfolding load
-  refused-fails q = by-rules (forcedRule (o .forced) (o .reading) f) refl q
+  refused-fails q = by-fitted (o .fit) refl (opened o f s) refl q
+
+  refused-so : opened o f s ≡ refused e → load o f s ≡ refused e
+  unfolding load
+  refused-so q = ap (fitted (o .fit)) q ∙ was-refused (o .fit) e
+
+  not-fitting : {t : Tables} {r : Tree} {n : Forms} → opened o f s ≡ accepted t r n → o .fit ≡ true → (Fits r n → ⊥) → load o f s ≡ refused (at File NotFit)
+  unfolding load
+  not-fitting {t} {r} {n} q p x =
+      rw (q, p)
+      (by-test (fitted true (accepted t r n) ≡ refused (at File NotFit)) (fits r n) (λ y. absurd (x (fits-facts r n y))) (λ y. left _ _ y))
 
   fails-refused : Fails o f s e → load o f s ≡ refused e
-  unfolding load
-  fails-refused (by-forced p) = ap (loadWith o s) p
-  fails-refused (by-head {w} p h q) = ap (loadWith o s) p ∙ ap (catalog o s w) h ∙ ap refused (sym q)
+  unfolding opened
+  fails-refused (by-forced p) = refused-so (ap (loadWith o s) p)
+  fails-refused (by-head {w} p h q) = refused-so (ap (loadWith o s) p ∙ ap (catalog o s w) h ∙ ap refused (sym q))
   fails-refused (by-entry {w} {u} {t} {i} p h l x y) =
       let z : t .count ≡ i + suc (t .count - suc i) = omega arith in
       let k : 0 + i ≡ i = omega arith in
-      ap (loadWith o s) p ∙ ap (catalog o s w) h
-      ∙ ap (answered t)
+      refused-so
+      (ap (loadWith o s) p ∙ ap (catalog o s w) h
+      ∙ ap (answered t (fileForms s t))
       (ap (λ (n : ℕ). entriesFrom o s t n 0 w) z
-      ∙ stopped o s t e i (t .count - suc i) 0 w u x (ap (λ (j : ℕ). entryStep o s u (readAt s t j)) k ∙ y))
+      ∙ stopped o s t e i (t .count - suc i) 0 w u x (ap (λ (j : ℕ). entryStep o s u (readAt s t j)) k ∙ y)))
+  fails-refused (by-fit {t} {r} {n} w p x q) = not-fitting (facts-opened o f s t r n w) p x ∙ ap refused (sym q)
 
   pub refused-exactly : (load o f s ≡ refused e) ↔ Fails o f s e
   refused-exactly = (refused-fails, fails-refused)

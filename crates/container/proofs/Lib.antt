@@ -3,6 +3,7 @@ pub mod Stages
 pub mod Accepted
 pub mod Exactly
 pub mod Few
+mod Fitted
 pub mod Before
 mod Cases
 pub mod Unique

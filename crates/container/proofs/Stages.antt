@@ -18,6 +18,7 @@ use Rattle.reading_rule.specs.Plurals as plurals
 use Rattle.reading_rule.specs.Plurals.{Parse, rule, norule, parsed, Parses}
 use Rattle.reading_rule.specs.declared.Parsed.{Parsed}
 use Rattle.header_fields.specs.declared.Place.the-variants as place
+use Rattle.header_forms.specs.declared.Forms.{Forms}
 use Rattle.container_layout.specs.Mo.{segments}
 use Rattle.container_layout.specs.declared.Tables.{Tables}
 use Rattle.container_messages.specs.Messages.{readAt}
@@ -27,14 +28,14 @@ use Rattle.container_messages.proofs.Entries.{header-inside, header-first}
 use Rattle.container_head.specs.Head.{headOf}
 use Rattle.container_head.specs.declared.Head.{Head}
 use Rattle.container_head.specs.declared.Head.the-variants as head
-use Rattle.container_rule.specs.Rule.{forcedRule, ruleAt, segment0, shifted, headerAt, firstOf, firstFrom, firstRule, ruleIn}
-use Rattle.container_rule.specs.Promise.{endOfRule, Chooses}
+use Rattle.container_rule.specs.Rule.{forcedRule, ruleAt, segment0, shifted, headerAt, firstOf, firstFrom, firstRule, ruleIn, fileForms}
+use Rattle.container_rule.specs.Promise.{endOfRule, formsOf, Chooses}
 use Rattle.container_rule.specs.declared.First.{First}
 use Rattle.container_rule.specs.declared.First.the-variants as first
 use Rattle.container_rule.proofs.Headers.{rule-ends, same-part}
-use Rattle.container_rule.proofs.Entry.{first-end}
+use Rattle.container_rule.proofs.Entry.{first-end, first-forms}
 use Rattle.container_rule.proofs.Rules.{choosing}
-use Rattle.container.specs.Catalog.{andThen, header, entryStep, entriesFrom, Answer, refused, answered, catalog, loadWith, load}
+use Rattle.container.specs.Catalog.{andThen, header, entryStep, entriesFrom, Answer, refused, answered, catalog, loadWith, opened}
 use Rattle.container.specs.Promise.{Empties, Loads}
 use Rattle.container.specs.Private.{headOutcome, readOutcome, goOn, restFrom}
 use Rattle.container.specs.declared.Options.{Options}
@@ -42,7 +43,7 @@ use Rattle.container.specs.declared.Loading.{Loading}
 
 -- a refusal, as an answer
 pub refusing : (a : Answer) {x : Refusal} {b : Outcome} {Q : Pool} {r : Loading} → a ≡ refused x → b ≡ outcome.Refused x → Empties b Q r → Loads a Q r
-refusing a e f g = rw e (record { outcome-is = g .outcome-is ∙ f; tables-are = g .tables-are; nodes-are = g .nodes-are; rule-is = g .rule-is })
+refusing a e f g = rw e (record { outcome-is = g .outcome-is ∙ f; tables-are = g .tables-are; nodes-are = g .nodes-are; rule-is = g .rule-is; forms-are = g .forms-are })
 
 -- a stage that handed on its rule, and one that did not
 went-on : (a : Parse) → plurals.outcomeOf a ≡ outcome.Loaded → a ≡ rule (plurals.treeIn a)
@@ -65,8 +66,8 @@ stepOf (outcome.Refused x) t = norule x
 module _ (o : Options) (s : List ℕ) (start len : ℕ) (i : start + len ≤ length s) where
   same-rule : (r : Tree) (f : First) → endOfRule f ≤ length (segment0 (segments s start len))
       → ruleIn (o .reading) s r (shifted start f) ≡ ruleIn (o .reading) (segment0 (segments s start len)) r f
-  same-rule r (first.Rule (place.At a l)) h = ap (parsed inRule (o .reading)) (same-part s start len i a l h)
-  same-rule r (first.Rule place.Absent) h = refl
+  same-rule r (first.Rule (place.At a l) n) h = ap (parsed inRule (o .reading)) (same-part s start len i a l h)
+  same-rule r (first.Rule place.Absent n) h = refl
   same-rule r (first.Refused e) h = refl
 
   header-rule : (r : Tree) → ruleIn (o .reading) s r (headerAt (o .forced) (o .utf8) s start len) ≡ header o (segment0 (segments s start len)) r
@@ -115,10 +116,10 @@ module _ (o : Options) (s : List ℕ) (t : Tables) where
 
 -- the load, stage by stage: P are the arrays after the forced rule
 module _ (o : Options) (f s : List ℕ) {forced : Parsed} {P : Pool} (g : Parses (forcedRule (o .forced) (o .reading) f) P forced) where
-  pub forced-refused : {e : Refusal} {Q : Pool} {r : Loading} → forced .outcome ≡ outcome.Refused e → Empties (forced .outcome) Q r → Loads (load o f s) Q r
-  unfolding load
+  pub forced-refused : {e : Refusal} {Q : Pool} {r : Loading} → forced .outcome ≡ outcome.Refused e → Empties (forced .outcome) Q r → Loads (opened o f s) Q r
+  unfolding opened
   forced-refused {e} q w =
-      refusing (load o f s) (ap (loadWith o s) (stopped (forcedRule (o .forced) (o .reading) f) (sym (g .outcome) ∙ q))) q w
+      refusing (opened o f s) (ap (loadWith o s) (stopped (forcedRule (o .forced) (o .reading) f) (sym (g .outcome) ∙ q))) q w
 
   abbrev before : Tree
   before = plurals.treeIn (forcedRule (o .forced) (o .reading) f)
@@ -127,49 +128,59 @@ module _ (o : Options) (f s : List ℕ) {forced : Parsed} {P : Pool} (g : Parses
     so-far : forcedRule (o .forced) (o .reading) f ≡ rule before
     so-far = went-on (forcedRule (o .forced) (o .reading) f) (sym (g .outcome) ∙ p)
 
-    at-head : {h : Head} → h ≡ headOf s → load o f s ≡ catalog o s before h
-    unfolding load
+    at-head : {h : Head} → h ≡ headOf s → opened o f s ≡ catalog o s before h
+    unfolding opened
     at-head e = ap (loadWith o s) so-far ∙ ap (catalog o s before) (sym e)
 
-    pub head-refused : {h : Head} {e : Error} {b : Outcome} {Q : Pool} {r : Loading} → h ≡ headOf s → h ≡ head.Refused e → b ≡ headOutcome h → Empties b Q r → Loads (load o f s) Q r
-    head-refused {h} {e} q w v z = refusing (load o f s) (at-head q ∙ ap (catalog o s before) w) (v ∙ headless h w) z
+    pub head-refused : {h : Head} {e : Error} {b : Outcome} {Q : Pool} {r : Loading} → h ≡ headOf s → h ≡ head.Refused e → b ≡ headOutcome h → Empties b Q r → Loads (opened o f s) Q r
+    head-refused {h} {e} q w v z = refusing (opened o f s) (at-head q ∙ ap (catalog o s before) w) (v ∙ headless h w) z
 
-    module _ {t : Tables} {h : Head} (q : h ≡ headOf s) (w : h ≡ head.Fields t) {first : First} (u : first ≡ firstRule (o .forced) (o .utf8) s t) where
-      pub rule-inside : endOfRule first ≤ length s
+    module _ {t : Tables} {h : Head} (q : h ≡ headOf s) (w : h ≡ head.Fields t) {at-first : First} (u : at-first ≡ firstRule (o .forced) (o .utf8) s t) where
+      pub rule-inside : endOfRule at-first ≤ length s
       rule-inside = rw u (first-end (o .forced) (o .utf8) s t)
 
       abbrev stage : Parse
-      stage = ruleIn (o .reading) s before first
+      stage = ruleIn (o .reading) s before at-first
 
-      at-entries : load o f s ≡ answered t (andThen stage (stepOf (restFrom s t (t .count - 1) 1)))
+      at-entries : opened o f s ≡ answered t (fileForms s t) (andThen stage (stepOf (restFrom s t (t .count - 1) 1)))
       at-entries =
-          at-head q ∙ ap (catalog o s before) w ∙ ap (answered t) (all-entries o s t before)
-          ∙ ap (λ (z : First). answered t (andThen (ruleIn (o .reading) s before z) (stepOf (restFrom s t (t .count - 1) 1)))) (sym u)
+          at-head q ∙ ap (catalog o s before) w ∙ ap (answered t (fileForms s t)) (all-entries o s t before)
+          ∙ ap (λ (z : First). answered t (fileForms s t) (andThen (ruleIn (o .reading) s before z) (stepOf (restFrom s t (t .count - 1) 1)))) (sym u)
 
-      module _ {ruled : Parsed} {Q : Pool} (c : Chooses (o .reading) s first (forced .nodes) P Q ruled) where
+      module _ {ruled : Parsed} {Q : Pool} (c : Chooses (o .reading) s at-first (forced .nodes) P Q ruled) where
         gives : Parses stage Q ruled
-        gives = choosing (o .reading) s before (g .stored) (g .nodes) first c
+        gives = choosing (o .reading) s before (g .stored) (g .nodes) at-first c
 
-        pub rule-stopped : {e : Refusal} {R : Pool} {r : Loading} → ruled .outcome ≡ outcome.Refused e → Empties (ruled .outcome) R r → Loads (load o f s) R r
+        pub rule-stopped : {e : Refusal} {R : Pool} {r : Loading} → ruled .outcome ≡ outcome.Refused e → Empties (ruled .outcome) R r → Loads (opened o f s) R r
         rule-stopped {e} i j =
-            refusing (load o f s)
-            (at-entries ∙ ap (λ (a : Parse). answered t (andThen a (stepOf (restFrom s t (t .count - 1) 1)))) (stopped stage (sym (gives .outcome) ∙ i)))
+            refusing (opened o f s)
+            (at-entries ∙ ap (λ (a : Parse). answered t (fileForms s t) (andThen a (stepOf (restFrom s t (t .count - 1) 1)))) (stopped stage (sym (gives .outcome) ∙ i)))
             i
             j
 
         module _ (i : ruled .outcome ≡ outcome.Loaded) {rest : Outcome} (j : rest ≡ restFrom s t (t .count - 1) 1) where
-          at-rest : load o f s ≡ answered t (stepOf rest (plurals.treeIn stage))
+          at-rest : opened o f s ≡ answered t (fileForms s t) (stepOf rest (plurals.treeIn stage))
           at-rest =
-              at-entries ∙ ap (λ (a : Parse). answered t (andThen a (stepOf (restFrom s t (t .count - 1) 1)))) (went-on stage (sym (gives .outcome) ∙ i))
-              ∙ ap (λ (a : Outcome). answered t (stepOf a (plurals.treeIn stage))) (sym j)
+              at-entries ∙ ap (λ (a : Parse). answered t (fileForms s t) (andThen a (stepOf (restFrom s t (t .count - 1) 1)))) (went-on stage (sym (gives .outcome) ∙ i))
+              ∙ ap (λ (a : Outcome). answered t (fileForms s t) (stepOf a (plurals.treeIn stage))) (sym j)
 
-          pub rest-refused : {e : Refusal} {R : Pool} {r : Loading} → rest ≡ outcome.Refused e → Empties rest R r → Loads (load o f s) R r
-          rest-refused v z = refusing (load o f s) (at-rest ∙ ap (λ (a : Outcome). answered t (stepOf a (plurals.treeIn stage))) v) v z
+          pub rest-refused : {e : Refusal} {R : Pool} {r : Loading} → rest ≡ outcome.Refused e → Empties rest R r → Loads (opened o f s) R r
+          rest-refused v z = refusing (opened o f s) (at-rest ∙ ap (λ (a : Outcome). answered t (fileForms s t) (stepOf a (plurals.treeIn stage))) v) v z
 
-          pub is-loaded : rest ≡ outcome.Loaded → Loads (load o f s) Q (record { outcome = outcome.Loaded; tables = t; nodes = ruled .nodes })
-          is-loaded v =
-              rw (at-rest ∙ ap (λ (a : Outcome). answered t (stepOf a (plurals.treeIn stage))) v)
-              (record { outcome-is = refl; tables-are = refl; nodes-are = gives .nodes; rule-is = gives .stored })
+          -- the count beside the rule is the file's
+          count-is : formsOf at-first ≡ fileForms s t
+          count-is = by-first at-first refl
+            where
+              by-first : (x : First) → at-first ≡ x → formsOf x ≡ fileForms s t
+              by-first (first.Rule p n) e = first-forms (o .forced) (o .utf8) s t (sym u ∙ e)
+              by-first (first.Refused x) e =
+                  let y : outcome.Loaded ≡ outcome.Refused x = sym i ∙ gives .outcome ∙ ap (λ (z : First). plurals.outcomeOf (ruleIn (o .reading) s before z)) e in
+                  absurd (let z : _≡_ {A = ℕ} 0 1 = cc in omega arith)
+
+          pub is-loaded : rest ≡ outcome.Loaded → {n : Forms} → n ≡ formsOf at-first → Loads (opened o f s) Q (record { outcome = outcome.Loaded; tables = t; nodes = ruled .nodes; forms = n })
+          is-loaded v c =
+              rw (at-rest ∙ ap (λ (a : Outcome). answered t (fileForms s t) (stepOf a (plurals.treeIn stage))) v)
+              (record { outcome-is = refl; tables-are = refl; nodes-are = gives .nodes; rule-is = gives .stored; forms-are = c ∙ count-is })
 
 -- a rule has a node
 pub some-nodes : (r : Tree) {k : ℕ} → k ≡ packedSize r → 0 < k

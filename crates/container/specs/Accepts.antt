@@ -7,14 +7,19 @@ use mathlib.Core.List.{List, []}
 use lib.ListN.{length, take, drop}
 use Rattle.refusal.specs.Places.{at, inRule}
 use Rattle.refusal.specs.declared.Error.{Error}
+use Rattle.refusal.specs.declared.Error.the-variants.{NotFit}
 use Rattle.refusal.specs.declared.Refusal.{Refusal}
 use Rattle.refusal.specs.declared.Where.the-variants as place-of
 use Rattle.rules.specs.Tree.{Tree, defaultTree}
+use Rattle.rules.specs.Range.{rateTree}
+use Rattle.rules.specs.declared.Rating.the-variants.{Range}
 use Rattle.reading_rule.specs.Plurals.{rule, norule, parsed}
 use Rattle.header_fields.specs.declared.Place.{Place}
 use Rattle.header_fields.specs.declared.Place.the-variants as place
 use Rattle.header.specs.Header.{metadata}
 use Rattle.header.specs.declared.Metadata.the-variants.{Fields}
+use Rattle.header_forms.specs.declared.Forms.{Forms}
+use Rattle.header_forms.specs.declared.Forms.the-variants.{Given, Absent}
 use Rattle.container_layout.specs.Mo.{original, id, segments}
 use Rattle.container_layout.specs.declared.Tables.{Tables}
 use Rattle.container_messages.specs.Good.{Good}
@@ -44,7 +49,8 @@ pub record IsHeader (s : List ℕ) (t : Tables) (h : List ℕ) : Type 0 where
 -- every line of a header is empty or has a colon, its label is UTF-8's or absent or passed over, and p is where its rule lies, or none
 pub record Fine (o : Options) (h : List ℕ) (p : Place) : Type 0 where
   pub label : Place
-  pub fields : metadata h ≡ Fields label p
+  pub forms : Forms
+  pub fields : metadata h ≡ Fields label p forms
   pub known : (o .utf8 || labelOk h label) ≡ true
 
 -- 1 and 6. which rule counts: the forced one, else the header's, else the default
@@ -58,16 +64,37 @@ pub record SomeFine (o : Options) (h : List ℕ) : Type 0 where
   pub place : Place
   pub fine : Fine o h place
 
-pub record Accepts (o : Options) (f s : List ℕ) (t : Tables) (r : Tree) : Type 0 where
+-- the count of forms is the header's, whatever rule counts; without a header there is none
+pub data Carries (s : List ℕ) (t : Tables) (n : Forms) : Type 0 where
+  in-header : {h : List ℕ} {label p : Place} → IsHeader s t h → metadata h ≡ Fields label p n → Carries s t n
+  no-header : ((h : List ℕ) → IsHeader s t h → ⊥) → n ≡ Absent → Carries s t n
+
+-- every test but the last
+pub record Sound (o : Options) (f s : List ℕ) (t : Tables) (r : Tree) (n : Forms) : Type 0 where
   pub headed : Headed s t
   pub entries : (i : ℕ) → i < t .count → Good s t i
   pub header : (h : List ℕ) → IsHeader s t h → SomeFine o h
   pub counts : Counts o f s t r
+  pub carries : Carries s t n
+
+-- 7. the count is given, and the rule has a range whose highest is below it
+pub record Fits (r : Tree) (n : Forms) : Type 0 where
+  pub count : ℕ
+  pub given : n ≡ Given count
+  pub lowest : ℕ
+  pub highest : ℕ
+  pub rated : rateTree r ≡ Range lowest highest
+  pub below : highest < count
+
+pub record Accepts (o : Options) (f s : List ℕ) (t : Tables) (r : Tree) (n : Forms) : Type 0 where
+  pub sound : Sound o f s t r n
+  pub fitting : o .fit ≡ true → Fits r n
 
 -- What a load is refused for: the forced rule, else the head, else the lowest entry of which a test fails, after all below it passed; of its
--- tests the first that fails, with the place of that test (`refused-exactly`).
+-- tests the first that fails, with the place of that test; and last, with everything else sound, that the rule does not fit (`refused-exactly`).
 pub data Fails (o : Options) (f s : List ℕ) (e : Refusal) : Type 0 where
   by-forced : forcedRule (o .forced) (o .reading) f ≡ norule e → Fails o f s e
   by-head : {w : Tree} {x : Error} → forcedRule (o .forced) (o .reading) f ≡ rule w → headOf s ≡ head.Refused x → e ≡ at place-of.File x → Fails o f s e
   by-entry : {w u : Tree} {t : Tables} {i : ℕ} → forcedRule (o .forced) (o .reading) f ≡ rule w → headOf s ≡ head.Fields t → i < t .count
       → entriesFrom o s t i 0 w ≡ rule u → entryStep o s u (readAt s t i) ≡ norule e → Fails o f s e
+  by-fit : {t : Tables} {r : Tree} {n : Forms} → Sound o f s t r n → o .fit ≡ true → (Fits r n → ⊥) → e ≡ at place-of.File NotFit → Fails o f s e

@@ -1,5 +1,6 @@
--- Loading without places: the numbers of SPEC 3 alone, in the order of its stages, as they were before a refusal said where (SPEC 2.1).
--- proofs/Before.antt shows that `load` with its places forgotten is this (`forgotten`).
+-- Loading without places: the numbers of SPEC 3 alone, in the order of its stages, as they were before a refusal said where (SPEC 2.1) and
+-- a count was kept (SPEC 3.8). proofs/Before.antt shows that `load` without a demand for a fit, its places and counts forgotten, is this
+-- (`forgotten`).
 use Prim.Native.Nat.{ℕ, zero, suc}
 use mathlib.Core.Bool.{true, false, _||_}
 use mathlib.Core.List.{List}
@@ -58,7 +59,7 @@ ruled o h r place.Absent = hands r
 
 abbrev pub headed : Options → List ℕ → Tree → Metadata → Stage
 headed o h r metadata.Malformed = stops MalformedMetadata
-headed o h r (metadata.Fields label p) =
+headed o h r (metadata.Fields label p n) =
     elim (o .utf8 || labelOk h label) [ true ↦ ruled o h r (elim (o .forced) [ true ↦ place.Absent | false ↦ p ]) | false ↦ stops UnknownEncoding ]
 
 -- an entry

@@ -3,24 +3,28 @@
 use container_head::Head;
 use container_layout::Tables;
 use container_messages::Read;
+use header_forms::Forms;
 use reading_rule::Reading;
+use refusal::Error;
 use refusal::Outcome;
 use refusal::Where;
+use rules::Fit;
 ghost use mathlib.Core.Path.{_≡_};
 ghost use Prim.Native.Nat.{_-_, _<_};
 ghost use Rattle.rules.specs.Pool.{pool};
-ghost use Rattle.container.specs.Catalog.{noTables, load};
+ghost use Rattle.container.specs.Catalog.{noTables, opened, load};
 ghost use Rattle.container.specs.Promise.{Empty, Empties, Loads, Opens};
-ghost use Rattle.container.specs.Private.{headOutcome, readOutcome, restFrom};
+ghost use Rattle.container.specs.Private.{isYes, fitsIn, headOutcome, readOutcome, restFrom};
 
-// Whether a forced rule is given, by which reading rules are read, and whether UTF-8 is forced.
+// Whether a forced rule is given, by which reading rules are read, whether UTF-8 is forced, and whether the rule has to fit the header's count.
 pub struct Options {
     pub forced: bool,
     pub reading: Reading,
     pub utf8: bool,
+    pub fit: bool,
 }
 
-// What a lookup needs beside the file: its tables, and the rule's nodes.
+// What a lookup needs beside the file: its tables, and the rule's nodes. And the header's count of forms, which no lookup looks at.
 pub struct Record {
     pub tables: Tables,
     pub codes: [u8; 512],
@@ -28,13 +32,15 @@ pub struct Record {
     pub values: [u64; 512],
     pub nodes: usize,
     pub root: usize,
+    pub forms: Forms,
 }
 
-// How a load went: the tables, those of the empty catalog where it is refused, and how many nodes the rule in the arrays has.
+// How a load went: the tables, those of the empty catalog where it is refused, how many nodes the rule in the arrays has, and the count.
 pub struct Loading {
     pub outcome: Outcome,
     pub tables: Tables,
     pub nodes: usize,
+    pub forms: Forms,
 }
 
 // The same with the rule, as a record by value.
@@ -55,7 +61,7 @@ fn no_tables() -> Tables
     }
 }
 
-// The empty catalog: no entries, and the default rule. Its root is its last node.
+// The empty catalog: no entries, the default rule, and no count. Its root is its last node.
 pub fn empty() -> Record
     ensures { λ r. ⌜ Empty r ⌝ }
 {
@@ -70,6 +76,7 @@ pub fn empty() -> Record
         values,
         nodes,
         root: nodes - 1,
+        forms: Forms::Absent,
     }
 }
 
@@ -114,6 +121,7 @@ pub fn empty_into(
         outcome,
         tables: no_tables(),
         nodes,
+        forms: Forms::Absent,
     }
 }
 
@@ -126,9 +134,8 @@ fn head_outcome(head: Head) -> Outcome
     }
 }
 
-// Loads the catalog that lies in the file. `rule` is the forced rule's text, where the options say that one is given. The nodes of the rule
-// that counts, the default where the load is refused, are what the arrays then hold.
-pub fn load_into<'a>(
+// Every stage of a load but the last test.
+fn open_into<'a>(
     file: &'a [u8],
     rule: &'a [u8],
     options: Options,
@@ -136,7 +143,7 @@ pub fn load_into<'a>(
     places: &mut [u16; 1024],
     values: &mut [u64; 512],
 ) -> Loading
-    ensures { λ r. ⌜ Loads (load options (now (rule .entry)) (now (file .entry))) (pool (now (codes .exit)) (now (places .exit)) (now (values .exit))) r ⌝ }
+    ensures { λ r. ⌜ Loads (opened options (now (rule .entry)) (now (file .entry))) (pool (now (codes .exit)) (now (places .exit)) (now (values .exit))) r ⌝ }
 {
     let reading = options.reading;
     let forced = container_rule::parse_forced(rule, options.forced, reading, codes, places, values);
@@ -162,7 +169,64 @@ pub fn load_into<'a>(
         outcome: Outcome::Loaded,
         tables: t,
         nodes: ruled.nodes,
+        forms: container_rule::forms_of(first),
     }
+}
+
+fn is_yes(fit: Fit) -> bool
+    ensures { λ r. ⌜ r ≡ isYes fit ⌝ }
+{
+    match fit {
+        Fit::Yes => true,
+        Fit::No => false,
+        Fit::NoTree => false,
+    }
+}
+
+// Whether a count is given, and the rule in the arrays, of so many nodes, fits it.
+fn fits<'a>(
+    codes: &'a [u8; 512],
+    places: &'a [u16; 1024],
+    values: &'a [u64; 512],
+    nodes: usize,
+    forms: Forms,
+) -> bool
+    requires { ⌜ 0 < nodes ⌝ }
+    ensures { λ r. ⌜ r ≡ fitsIn (pool (now (codes .entry)) (now (places .entry)) (now (values .entry))) nodes forms ⌝ }
+{
+    match forms {
+        Forms::Given(k) => is_yes(rules_range::fits(codes, places, values, nodes, nodes - 1, k)),
+        Forms::Absent => false,
+    }
+}
+
+// Loads the catalog that lies in the file. `rule` is the forced rule's text, where the options say that one is given. The nodes of the rule
+// that counts, the default where the load is refused, are what the arrays then hold. That the rule fits the count is tested last.
+pub fn load_into<'a>(
+    file: &'a [u8],
+    rule: &'a [u8],
+    options: Options,
+    codes: &mut [u8; 512],
+    places: &mut [u16; 1024],
+    values: &mut [u64; 512],
+) -> Loading
+    ensures { λ r. ⌜ Loads (load options (now (rule .entry)) (now (file .entry))) (pool (now (codes .exit)) (now (places .exit)) (now (values .exit))) r ⌝ }
+{
+    let loading = open_into(file, rule, options, codes, places, values);
+    if !options.fit {
+        return loading;
+    }
+    let outcome = loading.outcome;
+    let Outcome::Loaded = outcome else {
+        return loading;
+    };
+    let nodes = loading.nodes;
+    let forms = loading.forms;
+    if fits(codes, places, values, nodes, forms) {
+        return loading;
+    }
+    let refused = Outcome::Refused(refusal::at(Where::File, Error::NotFit));
+    empty_into(refused, codes, places, values)
 }
 
 // The same as a record by value. The root is the rule's last node.
@@ -176,6 +240,7 @@ pub fn load<'a>(file: &'a [u8], rule: &'a [u8], options: Options) -> Loaded
     let nodes = loading.nodes;
     let tables = loading.tables;
     let outcome = loading.outcome;
+    let forms = loading.forms;
     Loaded {
         outcome,
         record: Record {
@@ -185,6 +250,7 @@ pub fn load<'a>(file: &'a [u8], rule: &'a [u8], options: Options) -> Loaded
             values,
             nodes,
             root: nodes - 1,
+            forms,
         },
     }
 }

@@ -12,6 +12,7 @@ use Rattle.text.specs.Bytes.{place}
 use Rattle.text.specs.Cut.{cut}
 use Rattle.text.proofs.Tests.{taken, left, by-test}
 use Rattle.text.proofs.Cuts.{cut-first, cut-whole, place-length}
+use Rattle.header_fields.specs.Fields.{shift}
 use Rattle.header_fields.specs.Promise.{startOf, endOf}
 use Rattle.header_fields.specs.declared.Place.{Place}
 use Rattle.header_fields.specs.declared.Place.the-variants.{At, Absent}
@@ -19,6 +20,7 @@ use Rattle.header.specs.Header.{metadata, utf8Label}
 use Rattle.header.specs.declared.Metadata.{Metadata}
 use Rattle.header.specs.declared.Metadata.the-variants.{Malformed, Fields}
 use Rattle.header.proofs.Ends.{Inside, fields-end}
+use Rattle.header_forms.specs.declared.Forms.{Forms}
 use Rattle.container_layout.specs.Mo.{segments}
 use Rattle.refusal.specs.Places.{at, inHeader}
 use Rattle.refusal.specs.declared.Error.the-variants.{MalformedMetadata, UnknownEncoding}
@@ -52,11 +54,11 @@ module _ (forced utf8 : Bool) (h : List ℕ) {m : Metadata} (e : m ≡ metadata 
   unfolding ruleAt
   malformed f = rw (← e, f)
 
-  module _ {p q : Place} (f : m ≡ Fields p q) where
+  module _ {p q : Place} {n : Forms} (f : m ≡ Fields p q n) where
     pub inside : Inside h p q
     inside = fields-end h (sym e ∙ f)
 
-    at-fields : ruleAt forced utf8 h ≡ headed forced utf8 h (Fields p q)
+    at-fields : ruleAt forced utf8 h ≡ headed forced utf8 h (Fields p q n)
     unfolding ruleAt
     at-fields = rw (← e, f)
 
@@ -64,21 +66,21 @@ module _ (forced utf8 : Bool) (h : List ℕ) {m : Metadata} (e : m ≡ metadata 
       pub unknown : k ≡ false → Refused (at inHeader UnknownEncoding) ≡ ruleAt forced utf8 h
       unknown t = sym (at-fields ∙ left _ _ (sym g ∙ t))
 
-      pub rule-forced : k ≡ true → forced ≡ true → Rule Absent ≡ ruleAt forced utf8 h
-      rule-forced t u = sym (at-fields ∙ taken _ _ (sym g ∙ t) ∙ ap Rule (taken _ _ u))
+      pub rule-forced : k ≡ true → forced ≡ true → Rule Absent n ≡ ruleAt forced utf8 h
+      rule-forced t u = sym (at-fields ∙ taken _ _ (sym g ∙ t) ∙ ap (λ (x : Place). Rule x n) (taken _ _ u))
 
-      pub rule-given : k ≡ true → forced ≡ false → Rule q ≡ ruleAt forced utf8 h
-      rule-given t u = sym (at-fields ∙ taken _ _ (sym g ∙ t) ∙ ap Rule (left _ _ u))
+      pub rule-given : k ≡ true → forced ≡ false → Rule q n ≡ ruleAt forced utf8 h
+      rule-given t u = sym (at-fields ∙ taken _ _ (sym g ∙ t) ∙ ap (λ (x : Place). Rule x n) (left _ _ u))
 
 headed-end : (forced utf8 : Bool) (h : List ℕ) (m : Metadata) → metadata h ≡ m → endOfRule (headed forced utf8 h m) ≤ length h
 headed-end forced utf8 h Malformed e = omega arith
-headed-end forced utf8 h (Fields p q) e =
-    by-test (endOfRule (headed forced utf8 h (Fields p q)) ≤ length h) (utf8 || labelOk h p)
+headed-end forced utf8 h (Fields p q n) e =
+    by-test (endOfRule (headed forced utf8 h (Fields p q n)) ≤ length h) (utf8 || labelOk h p)
     (λ t.
-    by-test (endOfRule (headed forced utf8 h (Fields p q)) ≤ length h) forced
-    (λ u. let z : headed forced utf8 h (Fields p q) ≡ Rule Absent = taken _ _ t ∙ ap Rule (taken _ _ u) in rw z (omega arith))
-    (λ u. let z : headed forced utf8 h (Fields p q) ≡ Rule q = taken _ _ t ∙ ap Rule (left _ _ u) in rw z (fields-end h e .rule)))
-    (λ t. let z : headed forced utf8 h (Fields p q) ≡ Refused (at inHeader UnknownEncoding) = left _ _ t in rw z (omega arith))
+    by-test (endOfRule (headed forced utf8 h (Fields p q n)) ≤ length h) forced
+    (λ u. let z : headed forced utf8 h (Fields p q n) ≡ Rule Absent n = taken _ _ t ∙ ap (λ (x : Place). Rule x n) (taken _ _ u) in rw z (omega arith))
+    (λ u. let z : headed forced utf8 h (Fields p q n) ≡ Rule q n = taken _ _ t ∙ ap (λ (x : Place). Rule x n) (left _ _ u) in rw z (fields-end h e .rule)))
+    (λ t. let z : headed forced utf8 h (Fields p q n) ≡ Refused (at inHeader UnknownEncoding) = left _ _ t in rw z (omega arith))
 
 pub rule-ends : (forced utf8 : Bool) (h : List ℕ) → endOfRule (ruleAt forced utf8 h) ≤ length h
 unfolding ruleAt
@@ -89,8 +91,11 @@ start-first : (k : ℕ) (q : Place) → k + endOf q < 2 ^ 64 → k + startOf q <
 start-first k (At a l) h = omega arith
 start-first k Absent h = omega arith
 
-pub rule-moves : (k : ℕ) {f : First} {q : Place} → f ≡ Rule q → k + endOfRule f < 2 ^ 64 → k + startOf q < 2 ^ 64
+pub rule-moves : (k : ℕ) {f : First} {q : Place} {n : Forms} → f ≡ Rule q n → k + endOfRule f < 2 ^ 64 → k + startOf q < 2 ^ 64
 rule-moves k {f} {q} e h = let z : k + endOf q < 2 ^ 64 = rw e at h in start-first k q z
+
+pub rule-moved : (k : ℕ) {f : First} {p q : Place} {n : Forms} → f ≡ Rule p n → q ≡ shift k p → Rule q n ≡ shifted k f
+rule-moved k e g = rw (e, g)
 
 -- segment 0: up to the first NUL
 segment-zero : (x : List ℕ) → segment0 (cut 0 x) ≡ take (place 0 x) x
@@ -141,8 +146,8 @@ module _ (s : List ℕ) (start len : ℕ) (i : start + len ≤ length s) where
   zero-length = omega (arith, ap length zero-part, length-take (place 0 (take len (drop start s))) (drop start s), tail-length, place-length 0 (take len (drop start s)))
 
   shifted-end : (f : First) (n : ℕ) → endOfRule f ≤ n → start + n ≤ length s → endOfRule (shifted start f) ≤ length s
-  shifted-end (Rule (At a l)) n h k = omega arith
-  shifted-end (Rule Absent) n h k = omega arith
+  shifted-end (Rule (At a l) m) n h k = omega arith
+  shifted-end (Rule Absent m) n h k = omega arith
   shifted-end (Refused e) n h k = omega arith
 
   pub at-end : (forced utf8 : Bool) → endOfRule (headerAt forced utf8 s start len) ≤ length s

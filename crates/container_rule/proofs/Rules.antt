@@ -18,6 +18,7 @@ use Rattle.reading_rule.specs.declared.Reading.{Reading}
 use Rattle.reading_rule.specs.declared.Parsed.{Parsed}
 use Rattle.header_fields.specs.declared.Place.{Place}
 use Rattle.header_fields.specs.declared.Place.the-variants.{At, Absent}
+use Rattle.header_forms.specs.declared.Forms.{Forms}
 use Rattle.container_rule.specs.Rule.{forcedRule, ruleIn}
 use Rattle.container_rule.specs.Promise.{endOfRule, Chosen, Chooses}
 use Rattle.container_rule.specs.declared.First.{First}
@@ -36,14 +37,14 @@ module _ (forced : Bool) (reading : Reading) (s : List ℕ) {Q : Pool} {r : Pars
   none-forced e g = let z : forcedRule forced reading s ≡ rule defaultTree = left _ _ e in rw z g
 
 -- the header's rule takes the place of the one before
-pub rule-end : {f : First} {p : Place} {a l : ℕ} → f ≡ first.Rule p → p ≡ At a l → (n : ℕ) → endOfRule f ≤ n → a + l ≤ n
+pub rule-end : {f : First} {p : Place} {m : Forms} {a l : ℕ} → f ≡ first.Rule p m → p ≡ At a l → (n : ℕ) → endOfRule f ≤ n → a + l ≤ n
 rule-end e g n h = rw (e, g) at h
 
 module _ (reading : Reading) (s : List ℕ) {f : First} {k : ℕ} {P Q : Pool} where
-  pub rule-there : {p : Place} {a l : ℕ} {r : Parsed} → f ≡ first.Rule p → p ≡ At a l → Parses (parsed inRule reading (take (a + l - a) (drop a s))) Q r → Chooses reading s f k P Q r
-  rule-there {p} {a} {l} e d g = let z : a + l - a ≡ l = omega arith in record { chosen = rw (e, d, ← z) g }
+  pub rule-there : {p : Place} {m : Forms} {a l : ℕ} {r : Parsed} → f ≡ first.Rule p m → p ≡ At a l → Parses (parsed inRule reading (take (a + l - a) (drop a s))) Q r → Chooses reading s f k P Q r
+  rule-there {p} {m} {a} {l} e d g = let z : a + l - a ≡ l = omega arith in record { chosen = rw (e, d, ← z) g }
 
-  pub rule-absent : {p : Place} → f ≡ first.Rule p → p ≡ Absent → Q ≡ P → Chooses reading s f k P Q (record { outcome = outcome.Loaded; nodes = k })
+  pub rule-absent : {p : Place} {m : Forms} → f ≡ first.Rule p m → p ≡ Absent → Q ≡ P → Chooses reading s f k P Q (record { outcome = outcome.Loaded; nodes = k })
   rule-absent e d g = record { chosen = rw (e, d) (refl, g) }
 
   pub rule-refused : {x : Refusal} {r : Parsed} → f ≡ first.Refused x → Parses (norule x) Q r → Chooses reading s f k P Q r
@@ -52,8 +53,8 @@ module _ (reading : Reading) (s : List ℕ) {f : First} {k : ℕ} {P Q : Pool} w
 -- the stage's rule, whatever tree was there before
 module _ (reading : Reading) (s : List ℕ) (t : Tree) {k : ℕ} {P Q : Pool} {r : Parsed} (stored : P ≡ packed t) (nodes : k ≡ packedSize t) where
   by-place : (f : First) → Chosen reading s f k P Q r → Parses (ruleIn reading s t f) Q r
-  by-place (first.Rule (At a l)) p = p
-  by-place (first.Rule Absent) p = rw (p .0, p .1) (a-rule stored nodes)
+  by-place (first.Rule (At a l) m) p = p
+  by-place (first.Rule Absent m) p = rw (p .0, p .1) (a-rule stored nodes)
   by-place (first.Refused e) p = p
 
   pub choosing : (f : First) → Chooses reading s f k P Q r → Parses (ruleIn reading s t f) Q r

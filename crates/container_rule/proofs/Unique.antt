@@ -20,6 +20,8 @@ use Rattle.container_rule.proofs.parse_first.Reads as parse-first
 use Rattle.container_rule.proofs.parse_first.Kinds as parse-first-kinds
 use Rattle.container_rule.proofs.parse_forced.Reads as parse-forced
 use Rattle.container_rule.proofs.parse_forced.Kinds as parse-forced-kinds
+use Rattle.container_rule.proofs.forms_of.Reads as forms-of
+use Rattle.container_rule.proofs.forms_of.Kinds as forms-of-kinds
 use Rattle.container_rule.proofs.rule_of.Reads as rule-of
 use Rattle.container_rule.proofs.rule_of.Kinds as rule-of-kinds
 
@@ -34,8 +36,8 @@ parse-forced-one κs a u v x y p q = parses-one _ u v p q
 
 module _ (reading : Reading) (s : List ℕ) (k : ℕ) (O P Q : Pool) (u v : Parsed) where
   chosen-one : (f : First) → Chosen reading s f k O P u → Chosen reading s f k O Q v → (u ≡ v) × (P ≡ Q)
-  chosen-one (first.Rule (At a l)) p q = parses-one _ u v p q
-  chosen-one (first.Rule Absent) p q = (p .0 ∙ sym (q .0), p .1 ∙ sym (q .1))
+  chosen-one (first.Rule (At a l) m) p q = parses-one _ u v p q
+  chosen-one (first.Rule Absent m) p q = (p .0 ∙ sym (q .0), p .1 ∙ sym (q .1))
   chosen-one (first.Refused e) p q = parses-one _ u v p q
 
 chooses-one : {reading : Reading} {s : List ℕ} {f : First} {k : ℕ} {O P Q : Pool} (u v : Parsed) → Chooses reading s f k O P u → Chooses reading s f k O Q v
@@ -47,3 +49,6 @@ rule-left κs x = pool (now (x .1 .1 .1 .1 .0)) (now (x .1 .1 .1 .1 .1 .0)) (now
 
 pub rule-of-one : OneLeft 4 rule-of-kinds.ps rule-of-kinds.r rule-of.Post rule-left
 rule-of-one κs a u v x y p q = chooses-one u v p q
+
+pub forms-of-one : One 0 forms-of-kinds.ps forms-of-kinds.r forms-of.Post
+forms-of-one κs a u v x y p q = p ∙ sym q

@@ -1,5 +1,5 @@
 -- Which rule a load goes on with. SPEC 3.1 and 3.6: the forced rule, the header's, or the default. Of the options
--- those of a header count: whether a rule is forced, and whether UTF-8 is.
+-- those of a header count: whether a rule is forced, and whether UTF-8 is. And which count of forms a file has.
 use Prim.Native.Nat.{ℕ, zero, suc}
 use mathlib.Core.Bool.{Bool, true, false, _||_}
 use mathlib.Core.List.{List, [], _∷_}
@@ -16,6 +16,8 @@ use Rattle.header_fields.specs.declared.Place.the-variants.{At, Absent}
 use Rattle.header.specs.Header.{metadata, utf8Label}
 use Rattle.header.specs.declared.Metadata.{Metadata}
 use Rattle.header.specs.declared.Metadata.the-variants as metadata
+use Rattle.header_forms.specs.declared.Forms.{Forms}
+use Rattle.header_forms.specs.declared.Forms.the-variants as forms
 use Rattle.container_layout.specs.Mo.{segments}
 use Rattle.container_layout.specs.declared.Tables.{Tables}
 use Rattle.container_messages.specs.Messages.{readAt}
@@ -33,11 +35,11 @@ abbrev pub labelOk : List ℕ → Place → Bool
 labelOk h (At start len) = utf8Label (take len (drop start h))
 labelOk h Absent = true
 
--- where the rule lies that the header gives; a forced one stands instead
+-- where the rule lies that the header gives, and the count beside it; a forced rule stands instead of that rule
 abbrev pub headed : Bool → Bool → List ℕ → Metadata → First
 headed forced utf8 h metadata.Malformed = first.Refused (at inHeader MalformedMetadata)
-headed forced utf8 h (metadata.Fields label place) =
-    elim (utf8 || labelOk h label) [ true ↦ first.Rule (elim forced [ true ↦ Absent | false ↦ place ]) | false ↦ first.Refused (at inHeader UnknownEncoding) ]
+headed forced utf8 h (metadata.Fields label place n) =
+    elim (utf8 || labelOk h label) [ true ↦ first.Rule (elim forced [ true ↦ Absent | false ↦ place ]) n | false ↦ first.Refused (at inHeader UnknownEncoding) ]
 
 unfoldable pub ruleAt : Bool → Bool → List ℕ → First
 ruleAt forced utf8 h = headed forced utf8 h (metadata h)
@@ -49,7 +51,7 @@ segment0 (p ∷ ps) = p
 
 -- where the rule of entry 0 lies, as a part of the file
 abbrev pub shifted : ℕ → First → First
-shifted k (first.Rule p) = first.Rule (shift k p)
+shifted k (first.Rule p n) = first.Rule (shift k p) n
 shifted k (first.Refused e) = first.Refused e
 
 abbrev pub headerAt : Bool → Bool → List ℕ → ℕ → ℕ → First
@@ -57,19 +59,36 @@ headerAt forced utf8 s start len = shifted start (ruleAt forced utf8 (segment0 (
 
 abbrev pub firstOf : Bool → Bool → List ℕ → Read → First
 firstOf forced utf8 s (read.Refused e) = first.Refused e
-firstOf forced utf8 s read.Message = first.Rule Absent
+firstOf forced utf8 s read.Message = first.Rule Absent forms.Absent
 firstOf forced utf8 s (read.Header start len) = headerAt forced utf8 s start len
 
 -- of a file with so many entries
 abbrev pub firstFrom : Bool → Bool → List ℕ → Tables → ℕ → First
-firstFrom forced utf8 s t zero = first.Rule Absent
+firstFrom forced utf8 s t zero = first.Rule Absent forms.Absent
 firstFrom forced utf8 s t (suc k) = firstOf forced utf8 s (readAt s t 0)
 
 unfoldable pub firstRule : Bool → Bool → List ℕ → Tables → First
 firstRule forced utf8 s t = firstFrom forced utf8 s t (t .count)
 
+-- the count of forms of a file: that of the header, which is entry 0's; absent where there is none
+abbrev pub countOf : Metadata → Forms
+countOf (metadata.Fields label p n) = n
+countOf metadata.Malformed = forms.Absent
+
+abbrev pub formsRead : List ℕ → Read → Forms
+formsRead s (read.Header start len) = countOf (metadata (segment0 (segments s start len)))
+formsRead s read.Message = forms.Absent
+formsRead s (read.Refused e) = forms.Absent
+
+abbrev pub formsFrom : List ℕ → Tables → ℕ → Forms
+formsFrom s t zero = forms.Absent
+formsFrom s t (suc k) = formsRead s (readAt s t 0)
+
+unfoldable pub fileForms : List ℕ → Tables → Forms
+fileForms s t = formsFrom s t (t .count)
+
 -- the rule at that place of a text, in place of the one before
 abbrev pub ruleIn : Reading → List ℕ → Tree → First → Parse
-ruleIn reading s t (first.Rule (At start len)) = parsed inRule reading (take len (drop start s))
-ruleIn reading s t (first.Rule Absent) = rule t
+ruleIn reading s t (first.Rule (At start len) n) = parsed inRule reading (take len (drop start s))
+ruleIn reading s t (first.Rule Absent n) = rule t
 ruleIn reading s t (first.Refused e) = norule e

@@ -1,9 +1,11 @@
-// Which rule a load goes on with: the forced one, the header's, or the default. The header is entry 0's, where its id is empty. From parser.rs:
+// Which rule a load goes on with: the forced one, the header's, or the default; and the header's count of forms. The header is entry 0's, where its
+// id is empty. From parser.rs:
 // the part of `parse_catalog` for an empty id, and where it sets the resolver. The nodes of the rule go into arrays that the caller lends.
 use container_layout::Tables;
 use container_messages::Read;
 use header::Metadata;
 use header_fields::Place;
+use header_forms::Forms;
 use reading_rule::Parsed;
 use reading_rule::Reading;
 use refusal::Error;
@@ -20,11 +22,11 @@ ghost use Rattle.refusal.specs.Places.{at, inHeader};
 ghost use Rattle.header_fields.specs.Promise.{endOf};
 ghost use Rattle.reading_rule.specs.Plurals.{Parses};
 ghost use Rattle.container_rule.specs.Rule.{labelOk, ruleAt, shifted, headerAt, firstRule, forcedRule};
-ghost use Rattle.container_rule.specs.Promise.{endOfRule, Chooses};
+ghost use Rattle.container_rule.specs.Promise.{endOfRule, formsOf, Chooses};
 
-// Where the header's rule lies that is to be read, if any, or why the load ends.
+// Where the header's rule lies that is to be read, if any, and the count of forms; or why the load ends.
 pub enum First {
-    Rule(Place),
+    Rule(Place, Forms),
     Refused(Refusal),
 }
 
@@ -52,21 +54,21 @@ fn is_known(h: &[u8], label: Place, utf8: bool) -> bool
     }
 }
 
-// The header: where in it the rule lies that is to be read. A forced rule stands instead of it.
+// The header: where in it the rule lies that is to be read, and its count. A forced rule stands instead of its rule, not of its count.
 fn parse_header(h: &[u8], forced: bool, utf8: bool) -> First
     ensures { λ r. ⌜ r ≡ ruleAt forced utf8 (now (h .entry)) ⌝ }
 {
     let fields = header::parse_metadata(h);
-    let Metadata::Fields(label, rule) = fields else {
+    let Metadata::Fields(label, rule, forms) = fields else {
         return refused(Error::MalformedMetadata);
     };
     if !is_known(h, label, utf8) {
         return refused(Error::UnknownEncoding);
     }
     if forced {
-        return First::Rule(Place::Absent); // the forced one stands instead
+        return First::Rule(Place::Absent, forms); // the forced one stands instead
     }
-    First::Rule(rule)
+    First::Rule(rule, forms)
 }
 
 // The same place, counted from k bytes earlier.
@@ -75,7 +77,7 @@ fn moved(k: usize, first: First) -> First
     ensures { λ r. ⌜ r ≡ shifted k first ⌝ }
 {
     match first {
-        First::Rule(rule) => First::Rule(header_fields::moved(k, rule)),
+        First::Rule(rule, forms) => First::Rule(header_fields::moved(k, rule), forms),
         First::Refused(e) => First::Refused(e),
     }
 }
@@ -95,13 +97,23 @@ pub fn parse_first(file: &[u8], t: Tables, forced: bool, utf8: bool) -> First
     ensures { λ r. ⌜ r ≡ firstRule forced utf8 (now (file .entry)) t ⌝ }
 {
     if t.count == 0 {
-        return First::Rule(Place::Absent);
+        return First::Rule(Place::Absent, Forms::Absent);
     }
     let entry = container_messages::parse_entry(file, t, 0);
     match entry {
-        Read::Message => First::Rule(Place::Absent),
+        Read::Message => First::Rule(Place::Absent, Forms::Absent),
         Read::Header(start, len) => header_at(file, start, len, forced, utf8),
         Read::Refused(e) => First::Refused(e),
+    }
+}
+
+// The count of forms beside it.
+pub fn forms_of(first: First) -> Forms
+    ensures { λ r. ⌜ r ≡ formsOf first ⌝ }
+{
+    match first {
+        First::Rule(rule, forms) => forms,
+        First::Refused(e) => Forms::Absent,
     }
 }
 
@@ -142,7 +154,7 @@ pub fn rule_of(
         (pool (now (codes .exit)) (now (places .exit)) (now (values .exit))) r ⌝ }
 {
     match first {
-        First::Rule(rule) => match rule {
+        First::Rule(rule, forms) => match rule {
             Place::At(start, len) => {
                 let rule_end = start + len;
                 let place = Where::Entry(0, Side::Rule);

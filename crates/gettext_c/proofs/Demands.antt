@@ -1,10 +1,10 @@
 -- The three demands, over the functions that a host links. Each function's promise is its contract in src/lib.rt; here the promises are put
 -- together. In all of it s is the file, f the text of the forced rule, o the options; r and Q are what `gettext_c_load` left: its number,
--- where it failed and the head of the record, and the arrays of the rule. "Unaltered" is that the later calls get this very head and these arrays.
+-- where it failed, the count of forms and the head of the record, and the arrays of the rule. "Unaltered" is that the later calls get this very head and these arrays.
 -- Assumes nothing.
 use Prim.{tt}
 use Prim.Native.Nat.{ℕ, _+_, _^_, _<_, _≤_}
-use mathlib.Core.Path.{_≡_, refl, sym, ap, _∙_}
+use mathlib.Core.Path.{_≡_, refl, sym, ap, ap₂, _∙_}
 use mathlib.Core.Bool.{Bool, true, false}
 use mathlib.Core.Logic.{_↔_}
 use mathlib.Core.List.{List, []}
@@ -26,7 +26,7 @@ use Rattle.rules.specs.Value.{evalTree, truth}
 use Rattle.rules.specs.Range.{rateTree}
 use Rattle.rules.specs.Pool.{Pool}
 use Rattle.rules.specs.Pack.{packed}
-use Rattle.rules.specs.Answer.{formOf, resolvedOf, ratedOf, fitOf}
+use Rattle.rules.specs.Answer.{formOf, fitting, resolvedOf, ratedOf, fitOf}
 use Rattle.rules.specs.declared.Value.{Value}
 use Rattle.rules.specs.declared.Value.the-variants as value
 use Rattle.rules.specs.declared.Resolved.{Resolved}
@@ -40,6 +40,8 @@ use Rattle.rules.proofs.Fits.{Ranged, fits-ranged}
 use Rattle.reading_rule.specs.Plurals.{rule, parsed}
 use Rattle.reading_rule.specs.declared.Reading.the-variants.{Standard}
 use Rattle.reading_rule.proofs.Meaning.{IsRule, standard-exactly}
+use Rattle.header_forms.specs.declared.Forms.{Forms}
+use Rattle.header_forms.specs.declared.Forms.the-variants.{Given, Absent}
 use Rattle.container_layout.specs.Mo.{segments}
 use Rattle.container_layout.specs.declared.Tables.{Tables}
 use Rattle.lookup_scan.specs.Keys.{lastWith}
@@ -49,21 +51,21 @@ use Rattle.lookup.specs.declared.Reason.{Reason}
 use Rattle.lookup.specs.declared.Reason.the-variants as reason
 use Rattle.lookup.proofs.Rated.{Names, rated-lookup}
 use Rattle.lookup.proofs.Indexed.{never-12}
-use Rattle.container.specs.Catalog.{Answer, accepted, refused, noTables, load, treeIn}
+use Rattle.container.specs.Catalog.{Answer, accepted, refused, noTables, load, fits, treeIn}
 use Rattle.container.specs.Catalog as answer
 use Rattle.container.specs.Accepts.{Accepts, Fails}
 use Rattle.container.specs.Promise.{outcomeOf}
 use Rattle.container.specs.declared.Options.{Options}
-use Rattle.container.proofs.Exactly.{accepted-exactly, refused-exactly}
+use Rattle.container.proofs.Exactly.{accepted-exactly, facts-fit, refused-exactly}
 use Rattle.container.specs.Before as before
 use Rattle.container.proofs.Before.{numberIn, same-number}
-use Rattle.host.specs.Host.{sideOfLoad, enteredBy, entryOfLoad, tablesIn, nodesIn, rootIn, ownFor, answerOf, ratingOf, fitsOf}
+use Rattle.host.specs.Host.{sideOfLoad, enteredBy, entryOfLoad, countedBy, countBy, formsIn, tablesIn, nodesIn, rootIn, ownFor, answerOf, ratingOf, fitsOf}
 use Rattle.host.specs.declared.Loaded.{Loaded}
 use Rattle.host.specs.declared.Answer as host-answer
 use Rattle.host.specs.declared.Rating.{Rating}
 use Rattle.host.specs.declared.Fits.{Fits}
 use Rattle.gettext_c.specs.Record.{Loads, counted}
-use Rattle.gettext_c.proofs.Fresh.{was-accepted, fresh-resolves, fresh-length}
+use Rattle.gettext_c.proofs.Fresh.{was-accepted, fresh-resolves, fresh-fits, fresh-length}
 use Rattle.gettext_c.proofs.gettext_c_empty.Reads as empty
 use Rattle.gettext_c.proofs.gettext_c_empty.Kinds as empty-kinds
 use Rattle.gettext_c.proofs.gettext_c_load.Reads as load-reads
@@ -100,12 +102,12 @@ pub nothing-asked : AsksNothing 3 empty-kinds.ps empty.Pre × AsksNothing 4 load
     × AsksNothing 1 why-ngettext-kinds.ps why-ngettext.Pre
 nothing-asked = (λ κs a. tt, λ κs a. tt, λ κs a. tt, λ κs a. tt, λ κs a. tt, λ κs a. tt, λ κs a. tt, λ κs a. tt, λ κs a. tt, λ κs a. tt, λ κs a. tt, λ κs a. tt)
 
--- a refused load gives the empty catalog
-refused-empty : (a : Answer) {Q : Pool} {r : Loaded} → Loads a Q r → (r .number ≡ 0 → ⊥) → (tablesIn (r .head) ≡ noTables) × (Q ≡ packed defaultTree)
-refused-empty (accepted t u) h n = absurd (n (h .number-is))
-refused-empty (refused e) h n = (h .tables-are, h .rule-is)
+-- a refused load gives the empty catalog, without a count
+refused-empty : (a : Answer) {Q : Pool} {r : Loaded} → Loads a Q r → (r .number ≡ 0 → ⊥) → (tablesIn (r .head) ≡ noTables) × (Q ≡ packed defaultTree) × (r .counted ≡ 0)
+refused-empty (accepted t u x) h n = absurd (n (h .number-is))
+refused-empty (refused e) h n = (h .tables-are, h .rule-is, h .counted-is)
 
-pub refused-load : (o : Options) (f s : List ℕ) {Q : Pool} {r : Loaded} → Loads (load o f s) Q r → (r .number ≡ 0 → ⊥) → (tablesIn (r .head) ≡ noTables) × (Q ≡ packed defaultTree)
+pub refused-load : (o : Options) (f s : List ℕ) {Q : Pool} {r : Loaded} → Loads (load o f s) Q r → (r .number ≡ 0 → ⊥) → (tablesIn (r .head) ≡ noTables) × (Q ≡ packed defaultTree) × (r .counted ≡ 0)
 refused-load o f s h n = refused-empty (load o f s) h n
 
 -- a refused lookup gives the caller's own id or plural id, with 10 or 11
@@ -138,10 +140,11 @@ one-true false e = absurd (omega arith)
 pub demand-2-utf8 : (s : List ℕ) → (truth (utf8 s) ≡ 1) ↔ Text s
 demand-2-utf8 s = (λ e. utf8-is-text s .0 (one-true (utf8 s) e), λ t. ap truth (utf8-is-text s .1 t))
 
--- a load has number 0 exactly if the file is a catalog (container/specs/Accepts.antt), with its tables and the tree of the rule that counts
+-- a load has number 0 exactly if the file is a catalog (container/specs/Accepts.antt), with its tables, the tree of the rule that counts and the count
+-- of forms; where the options ask for it, the rule fits that count
 pub record IsCatalog (o : Options) (f s : List ℕ) (Q : Pool) (r : Loaded) : Type 0 where
   pub tree : Tree
-  pub facts : Accepts o f s (tablesIn (r .head)) tree
+  pub facts : Accepts o f s (tablesIn (r .head)) tree (formsIn (r .counted) (r .forms))
   pub stored : Q ≡ packed tree
 
 -- and the number and the place of a refusal exactly if they are those of the first test that fails, at the lowest index
@@ -157,15 +160,30 @@ pub record IsRefused (o : Options) (f s : List ℕ) (r : Loaded) : Type 0 where
   pub fails : Fails o f s refusal
 
 module _ (o : Options) (f s : List ℕ) {Q : Pool} {r : Loaded} (loads : Loads (load o f s) Q r) where
-  pub demand-2-accepts : r .number ≡ 0 → IsCatalog o f s Q r
-  demand-2-accepts e = record { tree = treeIn (load o f s); facts = accepted-exactly o f s _ _ .0 (was-accepted o f s loads e); stored = loads .rule-is }
+  -- what the two numbers say of the count is the load's
+  pub told-forms : formsIn (r .counted) (r .forms) ≡ answer.formsIn (load o f s)
+  told-forms = ap₂ formsIn (loads .counted-is) (loads .forms-are) ∙ back (answer.formsIn (load o f s))
+    where
+      back : (n : Forms) → formsIn (countedBy n) (countBy n) ≡ n
+      back (Given k) = refl
+      back Absent = refl
 
-  pub demand-2-accepted : (t : Tables) (u : Tree) → Accepts o f s t u → (r .number ≡ 0) × (tablesIn (r .head) ≡ t) × (Q ≡ packed u)
-  demand-2-accepted t u w =
-      let e = accepted-exactly o f s t u .1 w in (
+  pub demand-2-accepts : r .number ≡ 0 → IsCatalog o f s Q r
+  demand-2-accepts e =
+      record {
+        tree = treeIn (load o f s);
+        facts = rw told-forms (accepted-exactly o f s _ _ _ .0 (was-accepted o f s loads e));
+        stored = loads .rule-is;
+      }
+
+  pub demand-2-accepted : (t : Tables) (u : Tree) (n : Forms) → Accepts o f s t u n
+      → (r .number ≡ 0) × (tablesIn (r .head) ≡ t) × (Q ≡ packed u) × (formsIn (r .counted) (r .forms) ≡ n)
+  demand-2-accepted t u n w =
+      let e = accepted-exactly o f s t u n .1 w in (
         loads .number-is ∙ ap (λ (a : Answer). outcomeNumber (outcomeOf a)) e,
         loads .tables-are ∙ ap (λ (a : Answer). answer.tablesIn a) e,
         loads .rule-is ∙ ap (λ (a : Answer). packed (treeIn a)) e,
+        told-forms ∙ ap answer.formsIn e,
       )
 
   telling : {x : Refusal} → load o f s ≡ refused x → Tells x r
@@ -184,12 +202,12 @@ module _ (o : Options) (f s : List ℕ) {Q : Pool} {r : Loaded} (loads : Loads (
   demand-2-refused n = by-answer (load o f s) refl
     where
       by-answer : (a : Answer) → load o f s ≡ a → IsRefused o f s r
-      by-answer (accepted t u) e = absurd (n (loads .number-is ∙ ap (λ (a : Answer). outcomeNumber (outcomeOf a)) e))
+      by-answer (accepted t u x) e = absurd (n (loads .number-is ∙ ap (λ (a : Answer). outcomeNumber (outcomeOf a)) e))
       by-answer (refused x) e = record { refusal = x; tells = telling e; fails = refused-exactly o f s x .0 e }
 
-  -- the number is the one that the stages give without places
-  pub demand-2-as-before : r .number ≡ numberIn (before.load o f s)
-  demand-2-as-before = loads .number-is ∙ same-number o f s
+  -- with the option off the number is the one that the stages give without places and counts
+  pub demand-2-as-before : o .fit ≡ false → r .number ≡ numberIn (before.load o f s)
+  demand-2-as-before e = loads .number-is ∙ same-number o e f s
 
 -- a rule text, wherever it stands, is read as a tree, in the Standard reading, exactly if, trimmed, it means that tree in C's grammar (GNU gettext manual, 11.2.6)
 pub demand-2-rule : (w : Where) (f : List ℕ) (t : Tree) → (parsed w Standard f ≡ rule t) ↔ IsRule (trim whiteSpace f) t
@@ -281,3 +299,19 @@ module _ (o : Options) (f s : List ℕ) {Q : Pool} {r : Loaded} (loads : Loads (
       let x : fitOf Q (nodesIn (r .head)) (rootIn (r .head)) k ≡ fit.Yes = fits-1 _ (rw e at g) in
       let w = fits-ranged Q (nodesIn (r .head)) (rootIn (r .head)) k x in
       record { range = w; kept = kept (w .is) k (w .below) n count }
+
+  -- Loaded with the demand that the rule fit the header's count: whatever the count, a plural lookup whose last entry with the key stores at least as
+  -- many segments as the header says answers one of those segments, with number 0.
+  pub record OneOf (i start len : ℕ) (a : host-answer.Answer) : Type 0 where
+    pub form : ℕ
+    pub among : form < length (segments s start len)
+    pub is : IsSegment s i start len form a
+
+  pub fit-answers : o .fit ≡ true → (n : ℕ) → n < 2 ^ 64 → (key : List ℕ) (i start len : ℕ) → Last s (tablesIn (r .head)) key (tablesIn (r .head) .count) i start len
+      → r .forms ≤ length (segments s start len) → OneOf i start len (answerOf (ownFor n) (counted s (r .head) Q key n))
+  fit-answers on n count key i start len w stored =
+      let g = accepted-exactly o f s _ _ _ .0 (was-accepted o f s loads number-0) .fitting on in
+      let k : r .forms ≡ g .count = loads .forms-are ∙ ap countBy (g .given) in
+      let y : fitOf Q (nodesIn (r .head)) (rootIn (r .head)) (g .count) ≡ fit.Yes = fresh-fits o f s loads (g .count) ∙ ap fitting (sym (ap (fits (treeIn (load o f s))) (g .given)) ∙ facts-fit (treeIn (load o f s)) g) in
+      let x = demand-3-fits (g .count) (fitsOf (fitOf Q (nodesIn (r .head)) (rootIn (r .head)) (g .count))) refl (ap (λ (z : Fit). fitsOf z .fits) y) n count .kept in
+      record { form = x .yields .form; among = omega (arith, x .yields .below); is = x .answers key i start len w (omega arith) }

@@ -20,7 +20,7 @@ use Rattle.container_layout.specs.declared.Tables.{Tables}
 use Rattle.lookup_index.specs.Index.{building, leaves, number}
 use Rattle.lookup_index.specs.declared.Building.{Building}
 use Rattle.host.specs.Host as host
-use Rattle.host.specs.Host.{headOf, sideOfLoad, enteredBy, entryOfLoad, loadedOf, nodesIn, rootIn}
+use Rattle.host.specs.Host.{headOf, sideOfLoad, enteredBy, entryOfLoad, countedBy, countBy, loadedOf, nodesIn, rootIn}
 use Rattle.host.specs.declared.Loaded as loaded
 use Rattle.gettext_c.specs.Record.{Loads, IsEmpty, Indexes, Writes}
 
@@ -35,6 +35,8 @@ loads a {r = r} h e f =
       side-is = ap (λ (x : loaded.Loaded). x .side) e ∙ ap sideOfLoad (h .outcome-is);
       entered-is = ap (λ (x : loaded.Loaded). x .entered) e ∙ ap enteredBy (h .outcome-is);
       entry-is = ap (λ (x : loaded.Loaded). x .entry) e ∙ ap entryOfLoad (h .outcome-is);
+      counted-is = ap (λ (x : loaded.Loaded). x .counted) e ∙ ap countedBy (h .forms-are);
+      forms-are = ap (λ (x : loaded.Loaded). x .forms) e ∙ ap countBy (h .forms-are);
       head-is = ap (λ (x : loaded.Loaded). x .head) e ∙ ap₂ headOf (h .tables-are) (h .nodes-are);
       tables-are = f ∙ h .tables-are;
       rule-is = h .rule-is;
@@ -54,6 +56,8 @@ empties h e f =
       side-is = ap (λ (x : loaded.Loaded). x .side) e ∙ ap sideOfLoad (h .outcome-is);
       entered-is = ap (λ (x : loaded.Loaded). x .entered) e ∙ ap enteredBy (h .outcome-is);
       entry-is = ap (λ (x : loaded.Loaded). x .entry) e ∙ ap entryOfLoad (h .outcome-is);
+      counted-is = ap (λ (x : loaded.Loaded). x .counted) e ∙ ap countedBy (h .forms-are);
+      forms-are = ap (λ (x : loaded.Loaded). x .forms) e ∙ ap countBy (h .forms-are);
       head-is = ap (λ (x : loaded.Loaded). x .head) e ∙ ap₂ headOf (h .tables-are) (h .nodes-are);
       tables-are = f ∙ h .tables-are;
       rule-is = h .rule-is;

@@ -30,7 +30,7 @@ use Rattle.lookup_scan.specs.declared.Hit.{Hit}
 use Rattle.lookup.specs.Lookup.{byRule, plural, number}
 use Rattle.lookup.specs.declared.Reason.the-variants as reason
 use Rattle.lookup.proofs.Reasons.{by-entry-0}
-use Rattle.container.specs.Catalog.{Answer, accepted, refused, load, tablesIn, treeIn}
+use Rattle.container.specs.Catalog.{Answer, accepted, refused, load, tablesIn, treeIn, formsIn}
 use Rattle.container.specs.Promise.{outcomeOf}
 use Rattle.container.specs.declared.Options.{Options}
 use Rattle.container.proofs.Accepted.{accepted-length}
@@ -53,11 +53,12 @@ never-0 error.RuleTooLong e = omega arith
 never-0 error.ZeroModulus e = omega arith
 never-0 error.BadRecord e = omega arith
 never-0 error.IndexRoom e = omega arith
+never-0 error.NotFit e = omega arith
 never-0 error.BadSpan e = omega arith
 
 -- so a load with number 0 was accepted
-number-0-accepted : (a : Answer) → outcomeNumber (outcomeOf a) ≡ 0 → a ≡ accepted (tablesIn a) (treeIn a)
-number-0-accepted (accepted t r) e = refl
+number-0-accepted : (a : Answer) → outcomeNumber (outcomeOf a) ≡ 0 → a ≡ accepted (tablesIn a) (treeIn a) (formsIn a)
+number-0-accepted (accepted t r n) e = refl
 number-0-accepted (refused x) e = absurd (never-0 (x .error) e)
 
 -- 11 is not the number of what follows from a value
@@ -93,9 +94,9 @@ module _ (o : Options) (f s : List ℕ) {Q : Pool} {r : Loaded} (loads : Loads (
   fresh-fits k = rw root-is (held-fits (treeIn (load o f s)) (few o f s) (loads .rule-is) nodes-are k)
 
   module _ (number-0 : r .number ≡ 0) where
-    pub was-accepted : load o f s ≡ accepted (host.tablesIn (r .head)) (treeIn (load o f s))
+    pub was-accepted : load o f s ≡ accepted (host.tablesIn (r .head)) (treeIn (load o f s)) (formsIn (load o f s))
     was-accepted =
-        number-0-accepted (load o f s) (sym (loads .number-is) ∙ number-0) ∙ ap (λ (t : Tables). accepted t (treeIn (load o f s))) (sym (loads .tables-are))
+        number-0-accepted (load o f s) (sym (loads .number-is) ∙ number-0) ∙ ap (λ (t : Tables). accepted t (treeIn (load o f s)) (formsIn (load o f s))) (sym (loads .tables-are))
 
     pub fresh-length : length s ≡ host.tablesIn (r .head) .length
     fresh-length = sym (accepted-length o f s was-accepted)

@@ -43,27 +43,28 @@ use Rattle.gettext_c.proofs.gettext_c_index.Kinds as index-kinds
 use Rattle.gettext_c.proofs.gettext_c_cost.Reads as cost
 use Rattle.gettext_c.proofs.gettext_c_cost.Kinds as cost-kinds
 
--- a load's answer, the place counted in
-same : {u v : Loaded} → u .number ≡ v .number → u .side ≡ v .side → u .entered ≡ v .entered → u .entry ≡ v .entry → u .head ≡ v .head → u ≡ v
-same {u} {v} a b c d e = fields a b c d e
+-- a load's answer, the place and the count counted in
+same : {u v : Loaded} → u .number ≡ v .number → u .side ≡ v .side → u .entered ≡ v .entered → u .entry ≡ v .entry → u .counted ≡ v .counted → u .forms ≡ v .forms
+    → u .head ≡ v .head → u ≡ v
+same {u} {v} a b c d e f g = fields a b c d e f g
   where
-    made : ℕ → ℕ → ℕ → ℕ → List ℕ → Loaded
-    made n s k i h = record { number = n; side = s; entered = k; entry = i; head = h }
+    made : ℕ → ℕ → ℕ → ℕ → ℕ → ℕ → List ℕ → Loaded
+    made n s k i c x h = record { number = n; side = s; entered = k; counted = c; entry = i; forms = x; head = h }
 
-    fields : {n m s t k l i j : ℕ} {g h : List ℕ} → n ≡ m → s ≡ t → k ≡ l → i ≡ j → g ≡ h → made n s k i g ≡ made m t l j h
-    fields a b c d e = rw (a, b, c, d, e)
+    fields : {n m s t k l i j c d x y : ℕ} {g h : List ℕ} → n ≡ m → s ≡ t → k ≡ l → i ≡ j → c ≡ d → x ≡ y → g ≡ h → made n s k i c x g ≡ made m t l j d y h
+    fields a b c d e f g = rw (a, b, c, d, e, f, g)
 
 abbrev empty-left : (κs : Lfts 3) → AtExit (endedOf 3 empty-kinds.ps empty-kinds.r) κs → Pool
 empty-left κs x = pool (now (x .0)) (now (x .1 .0)) (now (x .1 .1 .0))
 
 pub empty-one : OneLeft 3 empty-kinds.ps empty-kinds.r empty.Post empty-left
-empty-one κs a u v x y p q = (same (p .number-is ∙ sym (q .number-is)) (p .side-is ∙ sym (q .side-is)) (p .entered-is ∙ sym (q .entered-is)) (p .entry-is ∙ sym (q .entry-is)) (p .head-is ∙ sym (q .head-is)), p .rule-is ∙ sym (q .rule-is))
+empty-one κs a u v x y p q = (same (p .number-is ∙ sym (q .number-is)) (p .side-is ∙ sym (q .side-is)) (p .entered-is ∙ sym (q .entered-is)) (p .entry-is ∙ sym (q .entry-is)) (p .counted-is ∙ sym (q .counted-is)) (p .forms-are ∙ sym (q .forms-are)) (p .head-is ∙ sym (q .head-is)), p .rule-is ∙ sym (q .rule-is))
 
 abbrev load-left : (κs : Lfts 4) → AtExit (endedOf 4 load-kinds.ps load-kinds.r) κs → Pool
-load-left κs x = pool (now (x .1 .1 .1 .1 .1 .0)) (now (x .1 .1 .1 .1 .1 .1 .0)) (now (x .1 .1 .1 .1 .1 .1 .1 .0))
+load-left κs x = pool (now (x .1 .1 .1 .1 .1 .1 .0)) (now (x .1 .1 .1 .1 .1 .1 .1 .0)) (now (x .1 .1 .1 .1 .1 .1 .1 .1 .0))
 
 pub load-one : OneLeft 4 load-kinds.ps load-kinds.r load.Post load-left
-load-one κs a u v x y p q = (same (p .number-is ∙ sym (q .number-is)) (p .side-is ∙ sym (q .side-is)) (p .entered-is ∙ sym (q .entered-is)) (p .entry-is ∙ sym (q .entry-is)) (p .head-is ∙ sym (q .head-is)), p .rule-is ∙ sym (q .rule-is))
+load-one κs a u v x y p q = (same (p .number-is ∙ sym (q .number-is)) (p .side-is ∙ sym (q .side-is)) (p .entered-is ∙ sym (q .entered-is)) (p .entry-is ∙ sym (q .entry-is)) (p .counted-is ∙ sym (q .counted-is)) (p .forms-are ∙ sym (q .forms-are)) (p .head-is ∙ sym (q .head-is)), p .rule-is ∙ sym (q .rule-is))
 
 pub gettext-one : One 1 gettext-kinds.ps gettext-kinds.r gettext.Post
 gettext-one κs a u v x y p q = p ∙ sym q

@@ -16,18 +16,21 @@ use Rattle.lookup_scan.specs.Keys.{lastWith}
 use Rattle.lookup_index.specs.Index.{soughtIn, building, leaves, number}
 use Rattle.lookup.specs.Lookup.{singular, plural, singularIn, pluralIn}
 use Rattle.lookup.specs.declared.Reason.{Reason}
-use Rattle.container.specs.Catalog.{Answer, noTables, tablesIn, treeIn}
+use Rattle.container.specs.Catalog.{Answer, noTables, tablesIn, treeIn, formsIn}
 use Rattle.container.specs.Promise.{outcomeOf}
 use Rattle.host.specs.Host as host
-use Rattle.host.specs.Host.{headOf, sideOfLoad, enteredBy, entryOfLoad, nodesIn, rootIn}
+use Rattle.host.specs.Host.{headOf, sideOfLoad, enteredBy, entryOfLoad, countedBy, countBy, nodesIn, rootIn}
 use Rattle.host.specs.declared.Loaded.{Loaded}
 
--- a load answers the number, where a refused one failed, the head, which says the tables, and the arrays of its answer; Q are the arrays at exit
+-- a load answers the number, where a refused one failed, the count of forms, the head, which says the tables, and the arrays of its answer; Q are the
+-- arrays at exit
 pub record Loads (a : Answer) (Q : Pool) (r : Loaded) : Type 0 where
   pub number-is : r .number ≡ outcomeNumber (outcomeOf a)
   pub side-is : r .side ≡ sideOfLoad (outcomeOf a)
   pub entered-is : r .entered ≡ enteredBy (outcomeOf a)
   pub entry-is : r .entry ≡ entryOfLoad (outcomeOf a)
+  pub counted-is : r .counted ≡ countedBy (formsIn a)
+  pub forms-are : r .forms ≡ countBy (formsIn a)
   pub head-is : r .head ≡ headOf (tablesIn a) (packedSize (treeIn a))
   pub tables-are : host.tablesIn (r .head) ≡ tablesIn a
   pub rule-is : Q ≡ packed (treeIn a)
@@ -37,6 +40,8 @@ pub record IsEmpty (Q : Pool) (r : Loaded) : Type 0 where
   pub side-is : r .side ≡ 0
   pub entered-is : r .entered ≡ 0
   pub entry-is : r .entry ≡ 0
+  pub counted-is : r .counted ≡ 0
+  pub forms-are : r .forms ≡ 0
   pub head-is : r .head ≡ headOf noTables (packedSize defaultTree)
   pub tables-are : host.tablesIn (r .head) ≡ noTables
   pub rule-is : Q ≡ packed defaultTree

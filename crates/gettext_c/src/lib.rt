@@ -39,7 +39,8 @@ pub extern "C" fn gettext_c_empty(
     host::loaded_of(loading)
 }
 
-// Loads the catalog that lies in the file. `rule` is read where `forced` is set; `standard` chooses the reading of rules.
+// Loads the catalog that lies in the file. `rule` is read where `forced` is set; `standard` chooses the reading of rules; `fit` demands that the
+// rule fit the header's count of forms.
 #[no_mangle]
 pub extern "C" fn gettext_c_load<'a>(
     file: &'a [u8],
@@ -47,14 +48,15 @@ pub extern "C" fn gettext_c_load<'a>(
     forced: u32,
     standard: u32,
     utf8: u32,
+    fit: u32,
     codes: &mut [u8; 512],
     places: &mut [u16; 1024],
     values: &mut [u64; 512],
 ) -> Loaded
-    ensures { λ r. ⌜ Loads (load (optionsOf forced standard utf8) (now (rule .entry)) (now (file .entry)))
+    ensures { λ r. ⌜ Loads (load (optionsOf forced standard utf8 fit) (now (rule .entry)) (now (file .entry)))
         (pool (now (codes .exit)) (now (places .exit)) (now (values .exit))) r ⌝ }
 {
-    let options = host::options_of(forced, standard, utf8);
+    let options = host::options_of(forced, standard, utf8, fit);
     let loading = container::load_into(file, rule, options, codes, places, values);
     host::loaded_of(loading)
 }

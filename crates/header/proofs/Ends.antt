@@ -13,6 +13,7 @@ use Rattle.header_fields.specs.Promise.{endOf}
 use Rattle.header_fields.specs.declared.Place.{Place}
 use Rattle.header_fields.specs.declared.Place.the-variants.{At, Absent}
 use Rattle.header_fields.proofs.Places.{shift-end}
+use Rattle.header_forms.specs.declared.Forms.{Forms}
 use Rattle.header.specs.Header.{within, field, metadata}
 use Rattle.header.specs.Private.{partOf}
 use Rattle.header.specs.declared.Sought.{Sought}
@@ -31,9 +32,9 @@ pub record Inside (h : List ℕ) (p q : Place) : Type 0 where
   pub label : endOf p ≤ length h
   pub rule : endOf q ≤ length h
 
-pub fields-end : (h : List ℕ) {p q : Place} → metadata h ≡ Fields p q → Inside h p q
+pub fields-end : (h : List ℕ) {p q : Place} {n : Forms} → metadata h ≡ Fields p q n → Inside h p q
 unfolding metadata
-fields-end h {p} {q} e =
+fields-end h {p} {q} {n} e =
     by-test (Inside h p q) (every lineOk (lines h))
     (λ t.
     let z = sym (taken _ _ t) ∙ e in
@@ -43,4 +44,4 @@ fields-end h {p} {q} e =
       label = rw (← x) (within-end Charset h (field (bytes "Content-Type") h) (field-end (bytes "Content-Type") h));
       rule = rw (← y) (within-end Plural h (field (bytes "Plural-Forms") h) (field-end (bytes "Plural-Forms") h));
     })
-    (λ t. let z : Malformed ≡ Fields p q = sym (left _ _ t) ∙ e in absurd (let y : _≡_ {A = ℕ} 0 1 = cc in omega arith))
+    (λ t. let z : Malformed ≡ Fields p q n = sym (left _ _ t) ∙ e in absurd (let y : _≡_ {A = ℕ} 0 1 = cc in omega arith))

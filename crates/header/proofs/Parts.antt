@@ -18,6 +18,8 @@ use Rattle.header_fields.specs.Promise.{endOf}
 use Rattle.header_fields.specs.declared.Place.{Place}
 use Rattle.header_fields.specs.declared.Place.the-variants.{At}
 use Rattle.header_fields.proofs.Places.{named-end, cut-end}
+use Rattle.header_forms.specs.Forms.{formsAt}
+use Rattle.header_forms.specs.declared.Forms.{Forms}
 use Rattle.header.specs.Header.{within, field, upTo, labelAfter, charset, plural, metadata}
 use Rattle.header.specs.Private.{partOf}
 use Rattle.header.specs.declared.Sought.{Sought}
@@ -52,7 +54,7 @@ module _ (h : List ℕ) where
   unfolding metadata
   malformed e = sym (left _ _ e)
 
-  pub well-formed : {p q a b : Place} → every lineOk (lines h) ≡ true → p ≡ field (bytes "Content-Type") h → q ≡ field (bytes "Plural-Forms") h
-      → a ≡ within h p (partOf Charset) → b ≡ within h q (partOf Plural) → Fields a b ≡ metadata h
+  pub well-formed : {p q a b : Place} {n : Forms} → every lineOk (lines h) ≡ true → p ≡ field (bytes "Content-Type") h → q ≡ field (bytes "Plural-Forms") h
+      → a ≡ within h p (partOf Charset) → b ≡ within h q (partOf Plural) → n ≡ formsAt h q → Fields a b n ≡ metadata h
   unfolding metadata
-  well-formed e f g i j = rw (i, j, f, g) (sym (taken _ _ e))
+  well-formed e f g i j k = rw (i, j, k, f, g) (sym (taken _ _ e))

@@ -1,4 +1,4 @@
--- The header of a catalog: which part of it is the charset label, and which the plural rule. SPEC 5;
+-- The header of a catalog: which part of it is the charset label, which the plural rule, and what its count of forms is. SPEC 5;
 -- SPEC 1 and 5: names, values and rules are trimmed of White_Space, names inside Plural-Forms of the six bytes.
 -- A part is told by its place: where it starts, and how long it is.
 use Prim.Native.Nat.{ℕ, _+_}
@@ -14,6 +14,7 @@ use Rattle.text.specs.declared.Found.the-variants as found
 use Rattle.header_fields.specs.Fields.{shift, named, lastOf, lineOk, lines}
 use Rattle.header_fields.specs.declared.Place.{Place}
 use Rattle.header_fields.specs.declared.Place.the-variants.{At, Absent}
+use Rattle.header_forms.specs.Forms.{formsAt}
 use Rattle.header.specs.declared.Metadata.{Metadata}
 use Rattle.header.specs.declared.Metadata.the-variants.{Malformed, Fields}
 
@@ -47,7 +48,11 @@ unfoldable pub metadata : List ℕ → Metadata
 unfolding charset plural
 metadata h =
     elim (every lineOk (lines h)) [
-      | true ↦ Fields (within h (field (bytes "Content-Type") h) charset) (within h (field (bytes "Plural-Forms") h) plural)
+      | true ↦
+          Fields
+          (within h (field (bytes "Content-Type") h) charset)
+          (within h (field (bytes "Plural-Forms") h) plural)
+          (formsAt h (field (bytes "Plural-Forms") h))
       | false ↦ Malformed
     ]
 

@@ -1,4 +1,4 @@
-// The metadata of a catalog, its header: where the charset label and the plural rule lie in it.
+// The metadata of a catalog, its header: where the charset label and the plural rule lie in it, and its count of forms.
 // A port of metadata.rs: `parse_metadata`, `charset`, `plural_forms`. The map of fields is the places of the two values wanted.
 ghost use mathlib.Core.Path.{_≡_};
 ghost use Prim.Native.Nat.{_≤_};
@@ -7,13 +7,14 @@ ghost use Rattle.header_fields.specs.Promise.{endOf};
 ghost use Rattle.header.specs.Header.{within, charset, plural, metadata, utf8Label};
 ghost use Rattle.header.specs.Private.{partOf};
 use header_fields::Place;
+use header_forms::Forms;
 use text::Found;
 use text_trim::Set;
 
-// The charset label and the plural rule, or a line that is no field.
+// The charset label, the plural rule and the count of forms, or a line that is no field.
 pub enum Metadata {
     Malformed,
-    Fields(Place, Place),
+    Fields(Place, Place, Forms),
 }
 
 // The label in a Content-Type: between the first "charset=" and the second, or the end.
@@ -68,7 +69,7 @@ fn part_in(h: &[u8], p: Place, sought: Sought) -> Place
     }
 }
 
-// Where the label and the rule lie in a header.
+// Where the label and the rule lie in a header, and its count of forms.
 pub fn parse_metadata(h: &[u8]) -> Metadata
     ensures { λ r. ⌜ r ≡ metadata (now (h .entry)) ⌝ }
 {
@@ -80,6 +81,7 @@ pub fn parse_metadata(h: &[u8]) -> Metadata
     Metadata::Fields(
         part_in(h, content_type, Sought::Charset),
         part_in(h, plural_forms, Sought::Plural),
+        header_forms::forms_at(h, plural_forms),
     )
 }
 

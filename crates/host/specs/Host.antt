@@ -17,6 +17,8 @@ use Rattle.rules.specs.declared.Fit.{Fit}
 use Rattle.rules.specs.declared.Fit.the-variants as fit
 use Rattle.reading_rule.specs.declared.Reading.{Reading}
 use Rattle.reading_rule.specs.declared.Reading.the-variants.{Shipped, Standard}
+use Rattle.header_forms.specs.declared.Forms.{Forms}
+use Rattle.header_forms.specs.declared.Forms.the-variants.{Given, Absent}
 use Rattle.container_layout.specs.declared.Tables.{Tables}
 use Rattle.container.specs.declared.Options.{Options}
 use Rattle.container.specs.declared.Loading.{Loading}
@@ -39,8 +41,8 @@ isSet x = not (eqb x 0)
 abbrev pub readingOf : ℕ → Reading
 readingOf x = elim (isSet x) [ true ↦ Standard | false ↦ Shipped ]
 
-abbrev pub optionsOf : ℕ → ℕ → ℕ → Options
-optionsOf forced standard utf8 = record { forced = isSet forced; reading = readingOf standard; utf8 = isSet utf8 }
+abbrev pub optionsOf : ℕ → ℕ → ℕ → ℕ → Options
+optionsOf forced standard utf8 fit = record { forced = isSet forced; reading = readingOf standard; utf8 = isSet utf8; fit = isSet fit }
 
 -- a record without the arrays of its rule as seven numbers; its last node is the root
 abbrev pub headOf : Tables → ℕ → List ℕ
@@ -56,12 +58,26 @@ enteredBy b = truth (named (indexOf (outcomePlace b)))
 abbrev pub entryOfLoad : Outcome → ℕ
 entryOfLoad b = indexOr0 (indexOf (outcomePlace b))
 
+-- the count of forms: whether it is given, and what it is, 0 where it is not; and what two such numbers say
+abbrev pub countedBy : Forms → ℕ
+countedBy (Given k) = 1
+countedBy Absent = 0
+
+abbrev pub countBy : Forms → ℕ
+countBy (Given k) = k
+countBy Absent = 0
+
+abbrev pub formsIn : ℕ → ℕ → Forms
+formsIn counted k = elim (isSet counted) [ true ↦ Given k | false ↦ Absent ]
+
 abbrev pub loadedOf : Loading → Loaded
 loadedOf r = record {
   number = outcomeNumber (r .outcome);
   side = sideOfLoad (r .outcome);
   entered = enteredBy (r .outcome);
+  counted = countedBy (r .forms);
   entry = entryOfLoad (r .outcome);
+  forms = countBy (r .forms);
   head = headOf (r .tables) (r .nodes);
 }
 

@@ -3,6 +3,7 @@
 use container::Loading;
 use container::Options;
 use container_layout::Tables;
+use header_forms::Forms;
 use lookup::Reason;
 use lookup_why::Why;
 use reading_rule::Reading;
@@ -15,10 +16,11 @@ ghost use mathlib.Core.Path.{_≡_};
 ghost use Prim.Native.Nat.{_<_, _%_};
 ghost use Rattle.rules.specs.Value.{truth};
 ghost use Rattle.host.specs.Explained.{leftOwn, explainedOf};
-ghost use Rattle.host.specs.Host.{isSet, readingOf, optionsOf, headOf, tablesIn, loadedOf, ownFor, fallback, answerOf, ratingOf, fitsOf, valueOf, writtenOf};
+ghost use Rattle.host.specs.Host.{isSet, readingOf, optionsOf, headOf, tablesIn, countedBy, countBy, loadedOf, ownFor, fallback, answerOf, ratingOf, fitsOf, valueOf, writtenOf};
 
 // How a load went: the number; where a refused one failed, the side (0 none, 1 original, 2 translation, 3 header, 4 rule), whether (1) an entry
-// is named, and its index; and the head of the record, that of the empty catalog where the number is not 0. A head is the
+// is named, and its index; whether (1) the header gives a count of forms, and that count, 0 where it does not; and the head of the record, that of
+// the empty catalog where the number is not 0. A head is the
 // file's length, how many entries it has, where the originals' table and the translations' lie, whether (not 0) the highest byte of a word
 // comes first, how many nodes the rule has, and its root. The rule's nodes are arrays beside it: codes, operand places, values.
 #[repr(C)]
@@ -26,7 +28,9 @@ pub struct Loaded {
     pub number: u32,
     pub side: u32,
     pub entered: u32,
+    pub counted: u32,
     pub entry: usize,
+    pub forms: u64,
     pub head: [usize; 7],
 }
 
@@ -94,14 +98,15 @@ fn reading_of(standard: u32) -> Reading
     Reading::Standard
 }
 
-// How to load, from three flags.
-pub fn options_of(forced: u32, standard: u32, utf8: u32) -> Options
-    ensures { λ r. ⌜ r ≡ optionsOf forced standard utf8 ⌝ }
+// How to load, from four flags.
+pub fn options_of(forced: u32, standard: u32, utf8: u32, fit: u32) -> Options
+    ensures { λ r. ⌜ r ≡ optionsOf forced standard utf8 fit ⌝ }
 {
     Options {
         forced: forced != 0,
         reading: reading_of(standard),
         utf8: utf8 != 0,
+        fit: fit != 0,
     }
 }
 
@@ -131,6 +136,25 @@ pub fn head_of(t: Tables, nodes: usize) -> [usize; 7]
     ]
 }
 
+// Whether a count is given, and the count, 0 where it is not.
+fn is_given(forms: Forms) -> u32
+    ensures { λ r. ⌜ r ≡ countedBy forms ⌝ }
+{
+    match forms {
+        Forms::Given(k) => 1,
+        Forms::Absent => 0,
+    }
+}
+
+fn count_of(forms: Forms) -> u64
+    ensures { λ r. ⌜ r ≡ countBy forms ⌝ }
+{
+    match forms {
+        Forms::Given(k) => k,
+        Forms::Absent => 0,
+    }
+}
+
 // How a load went.
 pub fn loaded_of(loading: Loading) -> Loaded
     requires { ⌜ 0 < loading .nodes ⌝ }
@@ -139,12 +163,15 @@ pub fn loaded_of(loading: Loading) -> Loaded
 {
     let outcome = loading.outcome;
     let tables = loading.tables;
+    let forms = loading.forms;
     let place = refusal::outcome_place(outcome);
     Loaded {
         number: refusal::outcome_number(outcome),
         side: refusal::side_number(place),
         entered: flag_of(refusal::names_entry(place)),
+        counted: is_given(forms),
         entry: refusal::entry_index(place),
+        forms: count_of(forms),
         head: head_of(tables, loading.nodes),
     }
 }

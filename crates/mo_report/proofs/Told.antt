@@ -29,7 +29,7 @@ module _ (s : List ℕ) {Q : Pool} {r : Loading} (h : Loads (load options s s) Q
   rates e = e ∙ held-rates (treeIn (load options s s)) (few options s s) (h .rule-is) (h .nodes-are)
 
   by-answer : (a : Answer) → Loads a Q r → r .outcome ≡ outcome.Loaded → said.Entries (r .tables .count) (rangeOf (rateTree (treeIn a))) ≡ spec.told a
-  by-answer (accepted t u) g e = ap (λ (x : Tables). said.Entries (x .count) (rangeOf (rateTree u))) (g .tables-are)
+  by-answer (accepted t u n) g e = ap (λ (x : Tables). said.Entries (x .count) (rangeOf (rateTree u))) (g .tables-are)
   by-answer (refused x) g e = absurd (let p = g .outcome-is in let z : _≡_ {A = ℕ} 0 1 = cc in omega arith)
 
   pub entries : {x : Rated} → r .outcome ≡ outcome.Loaded → x ≡ ratedOf Q (r .nodes) (r .nodes - 1) → said.Entries (r .tables .count) x ≡ reportOf s
@@ -37,7 +37,7 @@ module _ (s : List ℕ) {Q : Pool} {r : Loading} (h : Loads (load options s s) Q
   entries e g = ap (said.Entries (r .tables .count)) (rates g) ∙ by-answer (load options s s) h e
 
   by-refusal : (a : Answer) → Loads a Q r → {x : Refusal} → r .outcome ≡ outcome.Refused x → said.Refused x ≡ spec.told a
-  by-refusal (accepted t u) g e = absurd (let p = g .outcome-is in let z : _≡_ {A = ℕ} 0 1 = cc in omega arith)
+  by-refusal (accepted t u n) g e = absurd (let p = g .outcome-is in let z : _≡_ {A = ℕ} 0 1 = cc in omega arith)
   by-refusal (refused y) g {x} e = let p = g .outcome-is in let q : x ≡ y = cc in ap said.Refused q
 
   pub refusal : {x : Refusal} → r .outcome ≡ outcome.Refused x → said.Refused x ≡ reportOf s

@@ -10,12 +10,12 @@ use Rattle.container.specs.declared.Options.{Options}
 use Rattle.mo_report.specs.declared.Said.{Said}
 use Rattle.mo_report.specs.declared.Said.the-variants as said
 
--- nothing is forced
+-- nothing is forced, and no fit is asked for
 abbrev pub options : Options
-options = record { forced = false; reading = Shipped; utf8 = false }
+options = record { forced = false; reading = Shipped; utf8 = false; fit = false }
 
 abbrev pub told : Answer → Said
-told (accepted t r) = said.Entries (t .count) (rangeOf (rateTree r))
+told (accepted t r n) = said.Entries (t .count) (rangeOf (rateTree r))
 told (refused e) = said.Refused e
 
 unfoldable pub reportOf : List ℕ → Said

@@ -24,6 +24,7 @@ pub fn report(file: &[u8]) -> Said
         forced: false,
         reading: Reading::Shipped,
         utf8: false,
+        fit: false,
     };
     let mut codes = [0u8; 512];
     let mut places = [0u16; 1024];

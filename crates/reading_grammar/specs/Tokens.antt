@@ -5,7 +5,8 @@ use Prim.Native.Char.{code}
 use mathlib.Core.Bool.{Bool, true, false, _&&_, _||_}
 use mathlib.Core.List.{List, [], _∷_}
 use mathlib.Core.Option.{Option, none, some}
-use lib.Dec.{leb, eqb}
+use lib.Dec.{eqb}
+pub use Rattle.text_digits.specs.Digits.{digit}
 use Rattle.rules.specs.Tree.{Op, cmp, calc, and, or, rem, div, eq, ne, ge, le, gt, lt, plus, minus, times}
 use Rattle.reading_grammar.specs.Grammar.{Token, sign, number, mark}
 
@@ -29,9 +30,6 @@ two b (c ∷ s) = findTwo twos b c
 abbrev pub findOne : List (ℕ × Op) → ℕ → Token
 findOne [] b = mark b
 findOne (row ∷ rows) b = elim (eqb b (row .0)) [ true ↦ sign (row .1) | false ↦ findOne rows b ]
-
-abbrev pub digit : ℕ → Bool
-digit b = leb (code "0") b && leb b (code "9")
 
 abbrev pub blank : ℕ → Bool
 blank b = eqb b (code " ") || eqb b (code "\t")

@@ -12,10 +12,15 @@ use lib.Dec.{eqb, leb}
 use borrow.Author.Tests.{eq-eqb, ne-eqb, le-leb, lt-leb, leb-true, leb-false, lt-ltb, le-ltb}
 use Rattle.rules.specs.Tree.{Op}
 use Rattle.rules.specs.Store.{nodeCode}
+use Rattle.text_digits.specs.Digits.{digitOn}
+use Rattle.text_digits.specs.declared.Number.{Number}
+use Rattle.text_digits.specs.declared.Number.the-variants.{Whole, NoNumber}
+use Rattle.text_digits.proofs.Digits.{on-whole, on-none}
 use Rattle.reading_grammar.specs.Grammar.{Token, sign, number, mark}
 use Rattle.reading_grammar.specs.Tokens.{tokens, lex, digits, second, digit, blank, two, findTwo, twos, findOne, ones}
 use Rattle.reading_tokens.specs.declared.Next.{Next}
-use Rattle.reading_tokens.specs.declared.Next.the-variants.{End, Sign, Number, Huge, Mark}
+use Rattle.reading_tokens.specs.declared.Next.the-variants as next
+use Rattle.reading_tokens.specs.declared.Next.the-variants.{End, Sign, Huge, Mark}
 use Rattle.reading_tokens.specs.declared.After.the-variants.{At, Other}
 use Rattle.reading_tokens.specs.Scan.{lead, skipped, width, after, first, next, passed}
 use Rattle.reading_tokens.specs.Private.{codeOf, signOf, pairFrom, singleFrom, ran}
@@ -75,22 +80,7 @@ module _ (s : List ℕ) (at : ℕ) where
   skip-stop h i j = omega (arith, lead-off blank s at h (rw (ne-eqb _ _ i, ne-eqb _ _ j) refl))
 
 -- run
-is-digit : (b : ℕ) → 48 ≤ b → b ≤ 57 → digit b ≡ true
-is-digit b h i = rw (le-leb 48 b h, le-leb b 57 i)
-
-pub low-digit : (b : ℕ) → b < 48 → digit b ≡ false
-low-digit b h = rw (lt-leb 48 b h)
-
-pub high-digit : (b : ℕ) → 57 < b → digit b ≡ false
-high-digit b h = rw (lt-leb b 57 h) (and-false (leb 48 b))
-
-pub digit-rest : (b : ℕ) → 48 ≤ b → leb b 57 ≡ digit b
-digit-rest b h = rw (le-leb 48 b h)
-
-pub digit-low : (b : ℕ) → digit b ≡ true → 48 ≤ b
-digit-low b e = leb-true 48 b (both (leb 48 b) (leb b 57) e .0)
-
-first-small : (v e : ℕ) → v < 2 ^ 64 → first (number v ∷ []) e ≡ Number v e
+first-small : (v e : ℕ) → v < 2 ^ 64 → first (number v ∷ []) e ≡ next.Number v e
 first-small v e h = taken-if _ _ (lt-ltb _ _ h)
 
 first-huge : (v e : ℕ) → 2 ^ 64 ≤ v → first (number v ∷ []) e ≡ Huge
@@ -105,17 +95,17 @@ unfolding lex
 grow-head v b r e = taken-if _ _ e
 
 -- the whole integer that begins with the digits of v, and the tokens after it
-pub record Whole (v : ℕ) (s : List ℕ) : Type 0 where
+pub record Run (v : ℕ) (s : List ℕ) : Type 0 where
   pub w : ℕ
   pub is : lex (digits v) s ≡ number w ∷ tokens (drop (lead digit s) s)
   pub grows : v ≤ w
 
-pub whole : (v : ℕ) (s : List ℕ) → Whole v s
+pub whole : (v : ℕ) (s : List ℕ) → Run v s
 unfolding tokens lead
 whole v [] = record { w = v; is = refl; grows = omega arith }
 whole v (b ∷ s) = go (digit b) refl (whole (10 * v + (b - 48)) s)
   where
-    go : (d : Bool) → digit b ≡ d → Whole (10 * v + (b - 48)) s → Whole v (b ∷ s)
+    go : (d : Bool) → digit b ≡ d → Run (10 * v + (b - 48)) s → Run v (b ∷ s)
     go true e g = record { w = g .w; is = grow-head v b s e ∙ (g .is ∙ rw (lead-taken digit b s e) refl); grows = omega (arith, g .grows) }
     go false e g = record { w = v; is = stop-head v b s e ∙ rw (lead-left digit b s e) refl; grows = omega arith }
 
@@ -124,27 +114,29 @@ module _ (v : ℕ) (s : List ℕ) (at : ℕ) where
   unfolding ran
   ran-is ts e i j = rw (i, j) refl
 
-  pub run-end : v < 2 ^ 64 → length s ≤ at → Number v at ≡ ran v s at
+  pub run-end : v < 2 ^ 64 → length s ≤ at → next.Number v at ≡ ran v s at
   unfolding lex
   run-end b h = sym (ran-is (number v ∷ []) at (rw (drop-of-length-le s h) refl) (omega (arith, lead-end digit s at h)) ∙ first-small v at b)
 
-  pub run-stop : v < 2 ^ 64 → at < length s → digit (getD s at 0) ≡ false → Number v at ≡ ran v s at
+  pub run-stop : v < 2 ^ 64 → at < length s → digit (getD s at 0) ≡ false → next.Number v at ≡ ran v s at
   run-stop b h e =
       sym (ran-is (number v ∷ tokens (getD s at 0 ∷ drop (suc at) s)) at (rw (drop-cons s at 0 h) (stop-head v _ _ e)) (omega (arith, lead-off digit s at h e)) ∙ first-small v at b)
 
   grow-at : at < length s → digit (getD s at 0) ≡ true → lex (digits v) (drop at s) ≡ lex (digits (10 * v + (getD s at 0 - 48))) (drop (at + 1) s)
   grow-at h e = rw (drop-cons s at 0 h, add-one at) (grow-head v _ _ e)
 
-  pub run-more : {w : ℕ} {x : Next} → at < length s → 48 ≤ getD s at 0 → getD s at 0 ≤ 57 → w ≡ 10 * v + (getD s at 0 - 48) → x ≡ ran w s (at + 1) → x ≡ ran v s at
-  unfolding ran
-  run-more {w} h i j k r =
-      let e = is-digit _ i j in
-      r ∙ sym (ran-is (lex (digits w) (drop (at + 1) s)) (at + 1 + lead digit (drop (at + 1) s)) (rw k (grow-at h e)) (omega (arith, lead-on digit s at h e)))
+  module _ (h : at < length s) (e : digit (getD s at 0) ≡ true) {x : Number} (f : x ≡ digitOn v (getD s at 0)) where
+    pub run-more : {w : ℕ} {r : Next} → x ≡ Whole w → r ≡ ran w s (at + 1) → r ≡ ran v s at
+    unfolding ran
+    run-more {w} g r =
+        let k = on-whole v (getD s at 0) e (sym f ∙ g) in
+        r ∙ sym (ran-is (lex (digits w) (drop (at + 1) s)) (at + 1 + lead digit (drop (at + 1) s)) (rw k (grow-at h e)) (omega (arith, lead-on digit s at h e)))
 
-  pub run-huge : at < length s → 48 ≤ getD s at 0 → getD s at 0 ≤ 57 → 2 ^ 64 ≤ 10 * v + (getD s at 0 - 48) → Huge ≡ ran v s at
-  run-huge h i j k =
-      let g = whole (10 * v + (getD s at 0 - 48)) (drop (at + 1) s) in
-      sym (ran-is _ _ (grow-at h (is-digit _ i j) ∙ g .is) refl ∙ first-huge (g .w) _ (omega (arith, g .grows)))
+    pub run-huge : x ≡ NoNumber → Huge ≡ ran v s at
+    run-huge g =
+        let k = on-none v (getD s at 0) e (sym f ∙ g) in
+        let w = whole (10 * v + (getD s at 0 - 48)) (drop (at + 1) s) in
+        sym (ran-is _ _ (grow-at h e ∙ w .is) refl ∙ first-huge (w .w) _ (omega (arith, w .grows)))
 
 -- past the blanks
 blank-head : (b : ℕ) (s : List ℕ) → blank b ≡ true → digit b ≡ false → tokens (b ∷ s) ≡ tokens s
@@ -234,11 +226,13 @@ module _ (s : List ℕ) (at : ℕ) {i : ℕ} (k : i ≡ skipped s at) where
   at-byte : (ts : List Token) (e : ℕ) → i < length s → tokens (getD s i 0 ∷ drop (suc i) s) ≡ ts → i + width (getD s i 0 ∷ drop (suc i) s) ≡ e → next s at ≡ first ts e
   at-byte ts e h p q = here ∙ rw (drop-cons s i 0 h, p, q) refl
 
-  pub at-digit : {v : ℕ} {x : Next} → i < length s → digit (getD s i 0) ≡ true → v ≡ getD s i 0 - 48 → x ≡ ran v s (i + 1) → x ≡ next s at
+  pub at-digit : {x : Next} → i < length s → digit (getD s i 0) ≡ true → x ≡ ran 0 s i → x ≡ next s at
   unfolding ran
-  at-digit {v} h e f r =
+  at-digit h e r =
       let z = of-digit (getD s i 0) (drop (suc i) s) e in
-      r ∙ sym (at-byte (lex (digits v) (drop (i + 1) s)) (i + 1 + lead digit (drop (i + 1) s)) h (rw (f, add-one i) (z .0)) (rw (add-one i) (omega (arith, z .1))))
+      let n : getD s i 0 - 48 ≡ 10 * 0 + (getD s i 0 - 48) = omega arith in
+      let g = z .0 ∙ ap (λ (v : ℕ). lex (digits v) (drop (suc i) s)) n ∙ sym (grow-head 0 (getD s i 0) (drop (suc i) s) e) in
+      r ∙ rw (drop-cons s i 0 h) (sym (at-byte _ _ h g (omega (arith, z .1, lead-taken digit (getD s i 0) (drop (suc i) s) e))))
 
   module _ {b c : ℕ} (h : i < length s) (eb : b ≡ getD s i 0) (ec : c ≡ getD s (i + 1) 0) (e : digit b ≡ false) where
     quiet : blank b ≡ false

@@ -1,9 +1,9 @@
 // The tokens of a plural rule, one after the other: the token that stands next from a position on, and the position after it. The operators
 // are rows of tables.
 use rules::node;
+use text_digits::Number;
 ghost use mathlib.Core.Path.{_≡_};
 ghost use lib.ListN.{getD};
-ghost use Rattle.reading_grammar.specs.Tokens.{digit};
 ghost use Rattle.reading_tokens.specs.Scan.{Operator, Ranks, skipped, next, passed};
 ghost use Rattle.reading_tokens.specs.Private.{pairFrom, singleFrom, ran};
 
@@ -106,12 +106,6 @@ fn skip(s: &[u8], at: usize) -> usize
     at
 }
 
-fn wide(b: u8) -> u64
-    ensures { λ r. ⌜ r ≡ b ⌝ }
-{
-    b as u64
-}
-
 // The rest of an integer whose digits so far are v.
 fn run(s: &[u8], at: usize, v: u64) -> Next
     ensures { λ r. ⌜ r ≡ ran v (now (s .entry)) at ⌝ }
@@ -120,17 +114,14 @@ fn run(s: &[u8], at: usize, v: u64) -> Next
         return Next::Number(v, at);
     }
     let b = s[at];
-    if b < b'0' {
+    if !text_digits::is_digit(b) {
         return Next::Number(v, at);
     }
-    if b > b'9' {
-        return Next::Number(v, at);
-    }
-    let d = wide(b - b'0');
-    if v > (18446744073709551615 - d) / 10 {
+    let longer = text_digits::digit_on(v, b);
+    let Number::Whole(w) = longer else {
         return Next::Huge;
-    }
-    run(s, at + 1, 10 * v + d)
+    };
+    run(s, at + 1, w)
 }
 
 // The byte at a position, 0 past the end.
@@ -138,15 +129,6 @@ fn peek(s: &[u8], at: usize) -> u8
     ensures { λ r. ⌜ r ≡ getD (now (s .entry)) at 0 ⌝ }
 {
     if at < s.len() { s[at] } else { 0 }
-}
-
-fn is_digit(b: u8) -> bool
-    ensures { λ r. ⌜ r ≡ digit b ⌝ }
-{
-    if b < b'0' {
-        return false;
-    }
-    b <= b'9'
 }
 
 // The token that stands next.
@@ -158,8 +140,8 @@ pub fn token_at(s: &[u8], at: usize) -> Next
         return Next::End;
     }
     let b = s[i];
-    if is_digit(b) {
-        return run(s, i + 1, wide(b - b'0'));
+    if text_digits::is_digit(b) {
+        return run(s, i, 0);
     }
     let two = pair(b, peek(s, i + 1), 0);
     if two != 0 {

@@ -17,6 +17,7 @@ pub enum Error {
     ZeroModulus,
     BadRecord,
     IndexRoom,
+    NotFit,
     BadSpan,
 }
 
@@ -62,6 +63,7 @@ pub fn number_of(e: Error) -> u32
         Error::ZeroModulus => 10,
         Error::BadRecord => 11,
         Error::IndexRoom => 12,
+        Error::NotFit => 13,
         Error::BadSpan => 17,
     }
 }

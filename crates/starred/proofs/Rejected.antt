@@ -41,8 +41,8 @@ use Rattle.container_layout.specs.Mo.{word, string, contextEnd, idStart, idEnd,
 use Rattle.container_layout.specs.declared.Tables.{Tables}
 use Rattle.container_messages.specs.Messages.{originalOf, readAt}
 use Rattle.container_head.specs.Head.{orderOf, headOf}
-use Rattle.container_rule.specs.Rule.{ruleAt}
-use Rattle.container.specs.Catalog.{header, entryStep, entriesFrom, load}
+use Rattle.container_rule.specs.Rule.{ruleAt, fileForms}
+use Rattle.container.specs.Catalog.{header, entryStep, entriesFrom, opened, load}
 use Rattle.container.specs.declared.Options.{Options}
 use Rattle.lookup_scan.specs.Keys.{lastIn, lastWith}
 use Rattle.lookup.specs.Lookup as lookup
@@ -61,11 +61,11 @@ use Rattle.starred.proofs.Table.{plain}
 -- a load that refuses everything; a record with an invented entry count
 module _ {Q : Pool} (r : Loaded) (promise : Loads (load plain [] fileF) Q r) where
   pub against-refuses-everything : r .number ≡ 0
-  unfolding load entriesFrom entryStep header ruleAt readAt originalOf headOf orderOf word string contextEnd idStart idEnd context id utf8 rest front every cut
+  unfolding load opened fileForms entriesFrom entryStep header ruleAt readAt originalOf headOf orderOf word string contextEnd idStart idEnd context id utf8 rest front every cut
   against-refuses-everything = promise .number-is
 
   pub against-invented-count : tablesIn (r .head) .count ≡ 1
-  unfolding load entriesFrom entryStep header ruleAt readAt originalOf headOf orderOf word string contextEnd idStart idEnd context id utf8 rest front every cut
+  unfolding load opened fileForms entriesFrom entryStep header ruleAt readAt originalOf headOf orderOf word string contextEnd idStart idEnd context id utf8 rest front every cut
   against-invented-count = ap (λ (t : Tables). t .count) (promise .tables-are)
 
 abbrev tables : ℕ → Tables
@@ -115,7 +115,7 @@ abbrev pub fileH : List ℕ
 fileH = set (set (take 44 fileF) 28 0) 36 24 ++ 0 ∷ 0 ∷ bytes "Plural-Forms: plural=n%3" ++ 0 ∷ []
 
 pub against-other-rule : {Q : Pool} (r : Loaded) → Loads (load plain [] fileH) Q r → Q ≡ packed (bin rem var (int 3))
-unfolding load entriesFrom entryStep header ruleAt readAt originalOf headOf orderOf word string contextEnd idStart idEnd context id utf8 rest front every cut
+unfolding load opened fileForms entriesFrom entryStep header ruleAt readAt originalOf headOf orderOf word string contextEnd idStart idEnd context id utf8 rest front every cut
     trim trimStart trimEnd edgeAfter lead encode same begins first named lastOf charset plural metadata utf8Label
     parsed tested made all shipped parseIn parens level choose readNot indexOf indexFrom endFrom integer digitsFrom
 against-other-rule r promise = promise .rule-is

@@ -36,8 +36,8 @@ use Rattle.header.specs.Header.{charset, plural, metadata, utf8Label}
 use Rattle.container_layout.specs.Mo.{word, string, contextEnd, idStart, idEnd, context, id, entry, pieceAt, segment}
 use Rattle.container_messages.specs.Messages.{originalOf, readAt}
 use Rattle.container_head.specs.Head.{orderOf, headOf}
-use Rattle.container_rule.specs.Rule.{ruleAt}
-use Rattle.container.specs.Catalog.{header, entryStep, entriesFrom, Answer, accepted, refused, load}
+use Rattle.container_rule.specs.Rule.{ruleAt, fileForms}
+use Rattle.container.specs.Catalog.{header, entryStep, entriesFrom, Answer, accepted, refused, opened, load}
 use Rattle.container.specs.declared.Options.{Options}
 use Rattle.lookup_scan.specs.Keys.{lastIn, lastWith}
 use Rattle.lookup.specs.Lookup as lookup
@@ -49,10 +49,10 @@ use Rattle.starred.specs.Table.{Case, loading, looking, counting, readin
 
 -- nothing is forced
 abbrev pub plain : Options
-plain = record { forced = false; reading = Shipped; utf8 = false }
+plain = record { forced = false; reading = Shipped; utf8 = false; fit = false }
 
 abbrev loaded : Answer → Said
-loaded (accepted t r) = number 0
+loaded (accepted t r x) = number 0
 loaded (refused r) = number (numberOf (r .error))
 
 abbrev texted : ℕ → Text → Said
@@ -61,11 +61,11 @@ texted x Id = own x
 texted x PluralId = own-plural x
 
 abbrev looked : List ℕ → List ℕ → Answer → Said
-looked s key (accepted t r) = let a = lookup.singular s t (lastWith s t key) in texted (lookup.number a) (singularText a)
+looked s key (accepted t r x) = let a = lookup.singular s t (lastWith s t key) in texted (lookup.number a) (singularText a)
 looked s key (refused r) = number (numberOf (r .error))
 
 abbrev counted : List ℕ → List ℕ → ℕ → Answer → Said
-counted s key n (accepted t r) =
+counted s key n (accepted t r x) =
     let a = lookup.plural s t (resolvedOf (packed r) (packedSize r) (packedSize r - 1) n) (lastWith s t key) in texted (lookup.number a) (pluralText n a)
 counted s key n (refused r) = number (numberOf (r .error))
 
@@ -97,7 +97,7 @@ computed (fitting s k) = read (parsed Forced Standard s) (λ t. answered (fitsRa
 
 -- is what document 01 says
 pub starred-holds : map (λ r. computed (r .0)) starred ≡ map (λ r. r .1) starred
-unfolding load entriesFrom entryStep header ruleAt readAt originalOf headOf orderOf word string contextEnd idStart idEnd context id utf8 rest front trim trimStart trimEnd edgeAfter lead encode
+unfolding load opened fileForms entriesFrom entryStep header ruleAt readAt originalOf headOf orderOf word string contextEnd idStart idEnd context id utf8 rest front trim trimStart trimEnd edgeAfter lead encode
     same begins first cut every named lastOf charset plural metadata utf8Label entry pieceAt segment lastIn lastWith lookup.plural pluralText
     parsed tested made all tokens lex standard shipped parseIn parens level choose readNot indexOf indexFrom endFrom integer digitsFrom
     evalTree binary negated chosen truthV rateTree binRange opRange condRange notRange fitsRange

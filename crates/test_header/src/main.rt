@@ -27,7 +27,7 @@ fn shows(h: &[u8]) {
         Metadata::Malformed => {
             io::write_all(1, b"4");
         }
-        Metadata::Fields(label, rule) => {
+        Metadata::Fields(label, rule, _) => {
             part(h, label);
             io::write_all(1, b" ");
             part(h, rule);

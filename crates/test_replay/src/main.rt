@@ -214,6 +214,7 @@ fn catalog_agrees(told: &[u8]) -> bool {
         forced: flags % 2 == 1,
         reading: reading_of(flags),
         utf8: flags / 4 % 2 == 1,
+        fit: false,
     };
     let loaded = container::load(file, rule, options);
     let outcome = loaded.outcome;

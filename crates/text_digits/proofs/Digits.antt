@@ -6,13 +6,13 @@ use mathlib.Core.List.{List, [], _∷_}
 use native.Mathlib.Omega.{arith}
 use lib.ListN.{length, getD, take, drop}
 use lib.Seq.{drop-length}
-use lib.Dec.{ltb}
-use borrow.Author.Tests.{eq-eqb, ne-eqb, ltb-false, lt-ltb, le-ltb, le-leb, lt-leb}
+use lib.Dec.{ltb, leb}
+use borrow.Author.Tests.{eq-eqb, ne-eqb, ltb-false, lt-ltb, le-ltb, le-leb, lt-leb, leb-true}
+use Rattle.text.proofs.Tests.{taken, left, by-test, and-left}
 use Rattle.text.proofs.Walk.{rest-at, part-from}
 use Rattle.text_digits.specs.declared.Number.{Number}
 use Rattle.text_digits.specs.declared.Number.the-variants.{Whole, NoNumber}
-use Rattle.text_digits.specs.Digits.{digit, digitsFrom, digits, integer}
-use Rattle.text_digits.specs.Private.{digitOn}
+use Rattle.text_digits.specs.Digits.{digit, digitOn, digitsFrom, digits, integer}
 
 -- `from_str_radix`: what is too much stays so
 either : (x : Bool) {r : Number} → r ≡ NoNumber → elim x [ true ↦ r | false ↦ NoNumber ] ≡ NoNumber
@@ -66,19 +66,40 @@ digits-none s h = rw (eq-eqb (length s) 0 h, digits)
 pub digits-some : (s : List ℕ) → (length s ≡ 0 → ⊥) → digits s ≡ digitsFrom s 0
 digits-some s h = rw (ne-eqb (length s) 0 h, digits)
 
--- one digit
+-- one digit: the tests of a byte, and a number with one more
+pub low-digit : (b : ℕ) → b < 48 → false ≡ digit b
+low-digit b h = rw (lt-leb 48 b h)
+
+pub digit-rest : (b : ℕ) → 48 ≤ b → leb b 57 ≡ digit b
+digit-rest b h = rw (le-leb 48 b h)
+
+pub digit-from : (b : ℕ) → digit b ≡ true → 48 ≤ b
+digit-from b e = leb-true 48 b (and-left (leb 48 b) (leb b 57) e)
+
 module _ (v ch : ℕ) where
-  pub digit-low : ch < 48 → NoNumber ≡ digitOn v ch
-  digit-low h = rw (lt-leb 48 ch h, digitOn)
+  pub digit-other : digit ch ≡ false → NoNumber ≡ digitOn v ch
+  digit-other e = sym (left _ _ e)
 
-  pub digit-high : 57 < ch → NoNumber ≡ digitOn v ch
-  digit-high h = rw (le-leb 48 ch (omega arith), lt-leb ch 57 h, digitOn)
+  module _ (e : digit ch ≡ true) where
+    pub digit-much : 2 ^ 64 ≤ 10 * v + (ch - 48) → NoNumber ≡ digitOn v ch
+    digit-much l = sym (taken _ _ e ∙ left _ _ (le-ltb (10 * v + (ch - 48)) (2 ^ 64) l))
 
-  pub digit-much : 48 ≤ ch → ch ≤ 57 → 2 ^ 64 ≤ 10 * v + (ch - 48) → NoNumber ≡ digitOn v ch
-  digit-much h k l = rw (le-leb 48 ch h, le-leb ch 57 k, le-ltb (10 * v + (ch - 48)) (2 ^ 64) l, digitOn)
+    pub digit-fits : 10 * v + (ch - 48) < 2 ^ 64 → Whole (10 * v + (ch - 48)) ≡ digitOn v ch
+    digit-fits l = sym (taken _ _ e ∙ taken _ _ (lt-ltb (10 * v + (ch - 48)) (2 ^ 64) l))
 
-  pub digit-fits : 48 ≤ ch → ch ≤ 57 → 10 * v + (ch - 48) < 2 ^ 64 → Whole (10 * v + (ch - 48)) ≡ digitOn v ch
-  digit-fits h k l = rw (le-leb 48 ch h, le-leb ch 57 k, lt-ltb (10 * v + (ch - 48)) (2 ^ 64) l, digitOn)
+-- and what it tells
+pub on-whole : (v ch : ℕ) {w : ℕ} → digit ch ≡ true → digitOn v ch ≡ Whole w → w ≡ 10 * v + (ch - 48)
+on-whole v ch {w} e f = go (ltb (10 * v + (ch - 48)) (2 ^ 64)) (sym (taken _ _ e) ∙ f)
+  where
+    go : (b : Bool) → elim b [ true ↦ Whole (10 * v + (ch - 48)) | false ↦ NoNumber ] ≡ Whole w → w ≡ 10 * v + (ch - 48)
+    go true g = cc
+    go false g = let z : _≡_ {A = ℕ} 0 1 = cc in absurd (omega arith)
+
+pub on-none : (v ch : ℕ) → digit ch ≡ true → digitOn v ch ≡ NoNumber → 2 ^ 64 ≤ 10 * v + (ch - 48)
+on-none v ch e f =
+    by-test (2 ^ 64 ≤ 10 * v + (ch - 48)) (ltb (10 * v + (ch - 48)) (2 ^ 64))
+    (λ t. absurd (let g : Whole (10 * v + (ch - 48)) ≡ NoNumber = sym (taken _ _ e ∙ taken _ _ t) ∙ f in let z : _≡_ {A = ℕ} 0 1 = cc in omega arith))
+    (λ t. ltb-false _ _ t)
 
 -- the plus sign; no byte, no number
 pub integer-none : (s : List ℕ) → length s ≡ 0 → NoNumber ≡ integer s

@@ -1,22 +1,28 @@
-// An integer of the Shipped reading: `u64::from_str_radix` in base ten, which plurals.rs asks of Rust's library, as a plain loop over bytes.
+// The value of decimal digits, for all who read them: both readings of a rule, and a header's count of forms. `u64::from_str_radix` in base
+// ten, which the crate asks of Rust's library, is `integer_of`.
 ghost use mathlib.Core.Path.{_≡_};
-ghost use Rattle.text_digits.specs.Digits.{digits, integer};
-ghost use Rattle.text_digits.specs.Private.{digitOn};
+ghost use Rattle.text_digits.specs.Digits.{digit, digitOn, digits, integer};
 
-// What `from_str_radix` makes of a text.
+// What digits come to: a number of 64 bits, or none.
 pub enum Number {
     Whole(u64),
     NoNumber,
 }
 
+pub fn is_digit(b: u8) -> bool
+    ensures { λ r. ⌜ r ≡ digit b ⌝ }
+{
+    if b < b'0' {
+        return false;
+    }
+    b <= b'9'
+}
+
 // A number with one more digit, or none if that is no digit or too much.
-fn digit_on(v: u64, ch: u8) -> Number
+pub fn digit_on(v: u64, ch: u8) -> Number
     ensures { λ r. ⌜ r ≡ digitOn v ch ⌝ }
 {
-    if ch < b'0' {
-        return Number::NoNumber;
-    }
-    if b'9' < ch {
+    if !is_digit(ch) {
         return Number::NoNumber;
     }
     let d = wide(ch - b'0');
@@ -35,8 +41,8 @@ fn wide(x: u8) -> u64
     x as u64
 }
 
-// A number of digits, at least one.
-fn digits_of(s: &[u8]) -> Number
+// Digits alone, at least one.
+pub fn digits_of(s: &[u8]) -> Number
     ensures { λ r. ⌜ r ≡ digits (now (s .entry)) ⌝ }
 {
     if s.len() == 0 {

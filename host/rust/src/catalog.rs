@@ -161,6 +161,13 @@ impl<B: Bytes, S: Search> Catalog<B, S> {
         self.record.head.count
     }
 
+    /// How many forms the header says that a translation has: the last well-formed `nplurals` or `n_plurals` of its Plural-Forms. It is kept
+    /// where a rule is forced, too. See [`ParseOptions::require_fit`].
+    #[must_use]
+    pub fn form_count(&self) -> Option<u64> {
+        (self.record.counted != 0).then_some(self.record.forms)
+    }
+
     /// Whether the file has no entry.
     #[must_use]
     pub fn is_empty(&self) -> bool {

@@ -27,6 +27,9 @@ pub enum Error {
     RuleTooLong,
     /// Fewer slots are lent than the index uses, see [`Catalog::slots`](crate::Catalog::slots).
     IndexRoom,
+    /// The load demands that the rule fit the header's count of forms, see
+    /// [`ParseOptions::require_fit`](crate::ParseOptions::require_fit): the header gives none, or the rule does not fit it.
+    NotFit,
     /// A span of counts that ends before it begins, or has over 1,000,000 counts.
     BadSpan,
     /// The file could not be read. The library does not read files: it is [`ParseOptions::parse`](crate::ParseOptions::parse) that met it.
@@ -56,6 +59,7 @@ impl Error {
             Error::UnknownEncoding => Some(7),
             Error::RuleTooLong => Some(8),
             Error::IndexRoom => Some(12),
+            Error::NotFit => Some(13),
             Error::BadSpan => Some(17),
             Error::Unknown(number) => Some(*number),
             Error::Io(_) | Error::TooCostly { .. } => None,
@@ -75,6 +79,7 @@ impl Error {
             7 => Error::UnknownEncoding,
             8 => Error::RuleTooLong,
             12 => Error::IndexRoom,
+            13 => Error::NotFit,
             17 => Error::BadSpan,
             _ => Error::Unknown(number),
         })
@@ -93,6 +98,7 @@ impl fmt::Display for Error {
             Error::UnknownEncoding => "unknown encoding specified",
             Error::RuleTooLong => "plural expression over 512 bytes",
             Error::IndexRoom => "too few slots for the index",
+            Error::NotFit => "the plural expression does not fit the number of forms in the header",
             Error::BadSpan => "no span of at most 1000000 counts",
             Error::Io(error) => return error.fmt(f),
             Error::TooCostly { cost, limit } => {

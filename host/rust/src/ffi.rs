@@ -23,7 +23,7 @@ pub struct Head {
     pub root: usize,
 }
 
-/// What lookups need beside the file: the head, and the nodes of the rule.
+/// What lookups need beside the file: the head, and the nodes of the rule; and the header's count of forms, where `counted` is not 0.
 #[repr(C)]
 #[derive(Clone, Copy)]
 pub struct Record {
@@ -31,16 +31,21 @@ pub struct Record {
     pub values: [u64; 512],
     pub places: [u16; 1024],
     pub codes: [u8; 512],
+    pub forms: u64,
+    pub counted: u32,
 }
 
-/// A load's number; where a refused one failed, the side (0 none) and, where `entered` is not 0, the entry; and its record's head.
+/// A load's number; where a refused one failed, the side (0 none) and, where `entered` is not 0, the entry; where `counted` is not 0, the
+/// header's count of forms; and its record's head.
 #[repr(C)]
 #[derive(Clone, Copy)]
 pub struct Loaded {
     pub number: u32,
     pub side: u32,
     pub entered: u32,
+    pub counted: u32,
     pub entry: usize,
+    pub forms: u64,
     pub head: Head,
 }
 
@@ -120,8 +125,8 @@ impl Explained {
 }
 
 const _: () = assert!(size_of::<Head>() == 56);
-const _: () = assert!(size_of::<Record>() == 6712);
-const _: () = assert!(size_of::<Loaded>() == 80);
+const _: () = assert!(size_of::<Record>() == 6728);
+const _: () = assert!(size_of::<Loaded>() == 88);
 const _: () = assert!(size_of::<Answer>() == 40);
 const _: () = assert!(size_of::<Rating>() == 24);
 const _: () = assert!(size_of::<Fits>() == 8);
@@ -142,6 +147,7 @@ extern "C" {
         forced: u32,
         standard: u32,
         utf8: u32,
+        fit: u32,
         codes: *mut [u8; 512],
         places: *mut [u16; 1024],
         values: *mut [u64; 512],
@@ -276,6 +282,8 @@ pub fn blank() -> Box<Record> {
         values: [0; 512],
         places: [0; 1024],
         codes: [0; 512],
+        forms: 0,
+        counted: 0,
     })
 }
 
@@ -293,6 +301,7 @@ pub fn load(
     rule: Option<&[u8]>,
     standard: bool,
     utf8: bool,
+    fit: bool,
     r: &mut Record,
 ) -> Loaded {
     let text = rule.unwrap_or(&[]);
@@ -306,12 +315,15 @@ pub fn load(
             u32::from(rule.is_some()),
             u32::from(standard),
             u32::from(utf8),
+            u32::from(fit),
             &mut r.codes,
             &mut r.places,
             &mut r.values,
         )
     };
     r.head = loaded.head;
+    r.forms = loaded.forms;
+    r.counted = loaded.counted;
     loaded
 }
 

@@ -23,6 +23,7 @@
 //! let file = std::fs::read(path)?;
 //! let catalog = ParseOptions::new().reading(Reading::Standard).parse_slice(&file)?;
 //! assert_eq!(catalog.rating(), Some((0, 1)));
+//! assert_eq!(catalog.form_count(), Some(2));
 //! assert_eq!(catalog.rule_text()?, "(n!=1)");
 //! assert_eq!(catalog.forms_over(0..=9)?.of(0), Some(1));
 //!
@@ -46,6 +47,8 @@
 //! - A rule's text has at most 512 bytes, see [`Error::RuleTooLong`]; [`Error`] may get more variants.
 //! - A plural rule can be read in two ways, see [`Reading`].
 //! - A refused load can say where: [`ParseOptions::located`]. [`Error`] is as it was.
+//! - The header's count of forms is read, by the name that real files have, see [`Catalog::form_count`], and the rule can be made to fit
+//!   it, see [`ParseOptions::require_fit`].
 //!
 //! examples/changed_over.rs is a program that changed over, with the lines of before beside those that changed.
 

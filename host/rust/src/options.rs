@@ -38,11 +38,13 @@ pub struct ParseOptions<'r> {
     rule: Option<&'r str>,
     reading: Reading,
     utf8: bool,
+    fit: bool,
     max_cost: Option<u64>,
 }
 
 impl<'r> ParseOptions<'r> {
-    /// No rule is forced, rules are read as gettext 0.4.0 reads them, the charset label must be UTF-8's, and there is no limit.
+    /// No rule is forced, rules are read as gettext 0.4.0 reads them, the charset label must be UTF-8's, the rule need not fit the
+    /// header's count of forms, and there is no limit.
     pub fn new() -> Self {
         Self::default()
     }
@@ -62,6 +64,31 @@ impl<'r> ParseOptions<'r> {
     /// Chooses how plural rules are read.
     pub fn reading(mut self, reading: Reading) -> Self {
         self.reading = reading;
+        self
+    }
+
+    /// Demands that the rule, a forced one too, fit the count of forms that the header gives, see [`Catalog::form_count`]: it has a range
+    /// whose highest form is below that count, see [`Catalog::fits`]. A file whose rule does not, or that gives no count, is refused
+    /// with [`Error::NotFit`], after all its entries were tested.
+    ///
+    /// Of a file so loaded it is proved that, for every `n`, a plural lookup whose entry stores at least as many forms as the header
+    /// says answers one of them.
+    ///
+    /// ```
+    /// use gettext_rattle::{Error, ParseOptions};
+    ///
+    /// # fn main() -> Result<(), Error> {
+    /// # let path = concat!(env!("CARGO_MANIFEST_DIR"), "/../../examples/de.mo");
+    /// let file = std::fs::read(path)?;
+    /// let catalog = ParseOptions::new().require_fit().parse_slice(&file)?;
+    /// assert_eq!(catalog.form_count(), Some(2));
+    /// let other = ParseOptions::new().require_fit().force_plural("n % 3").parse_slice(&file);
+    /// assert!(matches!(other, Err(Error::NotFit)));
+    /// # Ok(())
+    /// # }
+    /// ```
+    pub fn require_fit(mut self) -> Self {
+        self.fit = true;
         self
     }
 
@@ -164,6 +191,7 @@ impl Located<'_> {
             options.rule.map(str::as_bytes),
             options.reading == Reading::Standard,
             options.utf8,
+            options.fit,
             &mut record,
         );
         Refusal::of(&loaded)?;

@@ -591,6 +591,116 @@ fn fitting() {
     assert!(!Catalog::parse_slice(&F).unwrap().fits(1));
 }
 
+/// The count that a Plural-Forms gives, and the error of a load that demands a fit, in the Standard reading.
+fn counted(forms: &[u8], forced: Option<&str>) -> (Option<u64>, Option<u32>) {
+    let file = headed(&[b"Plural-Forms:", forms].concat());
+    let mut options = ParseOptions::new().reading(Reading::Standard);
+    if let Some(rule) = forced {
+        options = options.force_plural(rule);
+    }
+    let count = options.parse_slice(&file).unwrap().form_count();
+    match options.require_fit().located().parse_slice(&file) {
+        Ok(catalog) => {
+            assert_eq!(catalog.form_count(), count);
+            assert!(catalog.fits(count.unwrap()));
+            (count, None)
+        }
+        Err(refusal) => {
+            assert_eq!((refusal.entry(), refusal.side()), (None, None));
+            (count, refusal.error().number())
+        }
+    }
+}
+
+#[test]
+fn the_count_of_forms() {
+    let not_fit = Error::NotFit.number();
+    assert_eq!(not_fit, Some(13));
+    for (forms, count, error) in [
+        ("nplurals=2; plural=n != 1;", Some(2), None),
+        ("n_plurals=3;plural=n%3", Some(3), None),
+        ("nplurals=2;n_plurals=3;plural=n%3", Some(3), None),
+        ("n_plurals=3;nplurals=2;plural=n%3", Some(2), not_fit),
+        ("nplurals=2;nplurals=x;nplurals;nplurals=", Some(2), None),
+        ("nplurals=002", Some(2), None),
+        ("nplurals=00000000000000000000000002", Some(2), None),
+        ("nplurals=18446744073709551615", Some(u64::MAX), None),
+        ("nplurals=18446744073709551616", None, not_fit),
+        ("nplurals=+2", None, not_fit),
+        ("nplurals=", None, not_fit),
+        ("nplurals=2 3", None, not_fit),
+        ("nplurals=1", Some(1), not_fit),
+        ("nplurals=0;plural=0", Some(0), not_fit),
+        ("nplurals=9;plural=5%n", Some(9), not_fit),
+        ("plural=0", None, not_fit),
+        ("Nplurals=2", None, not_fit),
+        ("\tnplurals\x0b=\x0c2\r;", Some(2), None),
+        ("nplurals=\u{a0}2;", None, not_fit),
+        ("plural=n!=1;nplurals=2\u{a0}", Some(2), None),
+        ("nplurals=3\nPlural-Forms:nplurals=2", Some(2), None),
+        ("nplurals=3\nPlural-Forms:plural=n!=1", None, not_fit),
+    ] {
+        assert_eq!(counted(forms.as_bytes(), None), (count, error), "{forms}");
+    }
+    // the header's rule is not read, its count is
+    assert_eq!(
+        counted(b"nplurals=2;plural=(", Some("n>1")),
+        (Some(2), None)
+    );
+    assert_eq!(
+        counted(b"nplurals=2;plural=0", Some("n%3")),
+        (Some(2), not_fit)
+    );
+}
+
+#[test]
+fn a_fit_is_the_last_test() {
+    let demand = || ParseOptions::new().require_fit();
+    // no header, and none that is looked at first
+    assert!(matches!(demand().parse_slice(&F), Err(Error::NotFit)));
+    assert!(matches!(demand().parse_slice(&F[..47]), Err(Error::Eof)));
+    let bad = made(&[(b"", b"Plural-Forms:nplurals=1"), (b"x", b"\xff")]);
+    assert!(matches!(
+        demand().parse_slice(&bad),
+        Err(Error::DecodingError)
+    ));
+    let twice = made(&[(b"", b"Plural-Forms:nplurals=1"), (b"", b"x")]);
+    assert!(matches!(
+        demand().parse_slice(&twice),
+        Err(Error::MisplacedMetadata)
+    ));
+    assert!(matches!(
+        demand().force_plural("(").parse_slice(&F),
+        Err(Error::PluralParsing)
+    ));
+    // without the demand, all as before
+    assert_eq!(Catalog::parse_slice(&F).unwrap().form_count(), None);
+    assert_eq!(Catalog::empty().form_count(), None);
+    let one = headed(b"Plural-Forms:nplurals=1");
+    assert_eq!(Catalog::parse_slice(&one).unwrap().form_count(), Some(1));
+    assert_eq!(
+        Error::NotFit.to_string(),
+        "the plural expression does not fit the number of forms in the header"
+    );
+}
+
+/// What the demand is for: of such a catalog every plural lookup of an entry with enough forms answers one of them.
+#[test]
+fn a_catalog_that_fits_answers_from_its_forms() {
+    let rule: &[u8] = b"Plural-Forms:nplurals=3;plural=n%10==1?0:n%10<5?1:2";
+    let file = made(&[(b"", rule), (b"x\0xs", b"one\0two\0three")]);
+    let catalog = ParseOptions::new()
+        .reading(Reading::Standard)
+        .require_fit()
+        .parse_slice(&file)
+        .unwrap();
+    for n in (0..1000).chain(u64::MAX - 1000..=u64::MAX) {
+        let answer = catalog.answer_ngettext("x", "xs", n);
+        assert_eq!(answer.status, Status::Answered);
+        assert!(["one", "two", "three"].contains(&answer.text));
+    }
+}
+
 #[test]
 fn the_empty_catalog() {
     let catalog = Catalog::empty();

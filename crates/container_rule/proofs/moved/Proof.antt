@@ -1,9 +1,7 @@
 -- Case by case. Assumes nothing.
-use mathlib.Core.Path.{_∙_, ap}
 use Rattle.promise.proofs.Told.{told}
 use Rattle.container_rule.specs.Rule.{shifted}
-use Rattle.container_rule.specs.declared.First.the-variants.{Rule}
-use Rattle.container_rule.proofs.Headers.{rule-moves}
+use Rattle.container_rule.proofs.Headers.{rule-moves, rule-moved}
 use borrow.Author.Needs.{needs}
 use Rattle.container_rule.proofs.moved.Statement.{statement}
 use Rattle.container_rule.proofs.moved.Tie as tie
@@ -21,7 +19,7 @@ enum-known-first-2 : tie.Need-enum-known-first-2
 enum-known-first-2 c = search needs
 
 returns : tie.Need-returns
-returns c = ap Rule (c .moved .ensures) ∙ told (shifted (c .before .before .before .before .args .k)) (c .before .before .first .given .1)
+returns c = rule-moved (c .before .before .before .before .args .k) (c .before .before .first .given .1) (c .moved .ensures)
 
 returns-2 : tie.Need-returns-2
 returns-2 c = told (shifted (c .before .before .before .args .k)) (c .before .first2 .given .1)

@@ -1,4 +1,4 @@
--- Where every line is a field, the label and the rule are sought in the last fields of their names. Assumes nothing.
+-- Where every line is a field, the label, the rule and the count are sought in the last fields of their names. Assumes nothing.
 use mathlib.Core.Path.{sym, _∙_}
 use borrow.Author.Tests.{not-true, not-false}
 use Rattle.text.specs.Bytes.{bytes}
@@ -31,8 +31,11 @@ part-in-requires c κs = rw (c .before .before .last-of .ensures) (field-end (by
 part-in-requires-2 : tie.Need-part-in-requires-2
 part-in-requires-2 c κs = rw (c .before .last-of2 .ensures) (field-end (bytes "Plural-Forms") (c .before .before .before .before .before .before .before .before .args .h .now))
 
+forms-at-requires : tie.Need-forms-at-requires
+forms-at-requires c κs = rw (c .before .before .last-of2 .ensures) (field-end (bytes "Plural-Forms") (c .before .before .before .before .before .before .before .before .before .args .h .now))
+
 returns-2 : tie.Need-returns-2
-returns-2 c = well-formed _ (sym (c .before .before .before .before .before .before .before .lines-ok .ensures) ∙ not-false _ (c .before .before .before .before .before .before .if1 .left)) (c .before .before .before .before .last-of .ensures) (c .before .before .last-of2 .ensures) (c .before .part-in .ensures) (c .part-in2 .ensures)
+returns-2 c = well-formed _ (sym (c .before .before .before .before .before .before .before .before .lines-ok .ensures) ∙ not-false _ (c .before .before .before .before .before .before .before .if1 .left)) (c .before .before .before .before .before .last-of .ensures) (c .before .before .before .last-of2 .ensures) (c .before .before .part-in .ensures) (c .before .part-in2 .ensures) (c .forms-at .ensures)
 
 pub parse-metadata-spec : {M : Type 1} → statement M
 parse-metadata-spec =
@@ -46,4 +49,5 @@ parse-metadata-spec =
     last-of-requires-2
     part-in-requires
     part-in-requires-2
+    forms-at-requires
     returns-2)

@@ -1,16 +1,7 @@
--- The number, the place and the head. Assumes nothing.
+-- The number, the place, the count and the head. Assumes nothing.
 use borrow.Author.Needs.{needs}
 use Rattle.host.proofs.loaded_of.Statement.{statement}
 use Rattle.host.proofs.loaded_of.Tie as tie
-use Rattle.host.proofs.loaded_of.Reads as reads
-use Rattle.host.proofs.loaded_of.Lts as lts
-use Rattle.host.proofs.flag_of.Reads as flag-of-reads
-use Rattle.host.proofs.head_of.Reads as head-of-reads
-use Rattle.refusal.proofs.entry_index.Reads as entry-index-reads
-use Rattle.refusal.proofs.names_entry.Reads as names-entry-reads
-use Rattle.refusal.proofs.outcome_number.Reads as outcome-number-reads
-use Rattle.refusal.proofs.outcome_place.Reads as outcome-place-reads
-use Rattle.refusal.proofs.side_number.Reads as side-number-reads
 
 outcome-place-requires : tie.Need-outcome-place-requires
 outcome-place-requires c κs = search needs
@@ -27,14 +18,20 @@ names-entry-requires c κs = search needs
 flag-of-requires : tie.Need-flag-of-requires
 flag-of-requires c κs = search needs
 
+is-given-requires : tie.Need-is-given-requires
+is-given-requires c κs = search needs
+
 entry-index-requires : tie.Need-entry-index-requires
 entry-index-requires c κs = search needs
+
+count-of-requires : tie.Need-count-of-requires
+count-of-requires c κs = search needs
 
 head-of-requires : tie.Need-head-of-requires
 head-of-requires c κs = search needs
 
 returns : tie.Need-returns
-returns c = (simp (c .before .before .before .before .before .before .outcome-place .ensures, c .before .before .before .before .before .outcome-number .ensures, c .before .before .before .before .side-number .ensures, c .before .before .before .names-entry .ensures, c .before .before .flag-of .ensures, c .before .entry-index .ensures, c .head-of .ensures .0), c .head-of .ensures .1)
+returns c = (simp (c .before .before .before .before .before .before .before .before .outcome-place .ensures, c .before .before .before .before .before .before .before .outcome-number .ensures, c .before .before .before .before .before .before .side-number .ensures, c .before .before .before .before .before .names-entry .ensures, c .before .before .before .before .flag-of .ensures, c .before .before .before .is-given .ensures, c .before .before .entry-index .ensures, c .before .count-of .ensures, c .head-of .ensures .0), c .head-of .ensures .1)
 
 pub loaded-of-spec : {M : Type 1} → statement M
 loaded-of-spec =
@@ -45,6 +42,8 @@ loaded-of-spec =
     side-number-requires
     names-entry-requires
     flag-of-requires
+    is-given-requires
     entry-index-requires
+    count-of-requires
     head-of-requires
     returns)

@@ -1,7 +1,7 @@
 -- Blanks first, then the byte that begins a token: a digit, an operator of two bytes, one of one byte, or any other.
 use native.Mathlib.Omega.{arith}
 use mathlib.Core.Path.{refl, sym, _∙_}
-use Rattle.reading_tokens.proofs.Lexed.{at-end, at-digit, at-two, at-one, at-mark, digit-low}
+use Rattle.reading_tokens.proofs.Lexed.{at-end, at-digit, at-two, at-one, at-mark}
 use borrow.Author.Needs.{needs}
 use Rattle.reading_tokens.proofs.token_at.Statement.{statement}
 use Rattle.reading_tokens.proofs.token_at.Tie as tie
@@ -18,20 +18,11 @@ shared-slice-read-b c = search needs
 is-digit-requires : tie.Need-is-digit-requires
 is-digit-requires c κs = search needs
 
-add-run : tie.Need-add-run
-add-run c = search needs
-
-sub-wide : tie.Need-sub-wide
-sub-wide c = digit-low _ (sym (c .before .is-digit .ensures) ∙ c .if2 .taken)
-
-wide-requires : tie.Need-wide-requires
-wide-requires c κs = search needs
-
 run-requires : tie.Need-run-requires
 run-requires c κs = search needs
 
 returns-2 : tie.Need-returns-2
-returns-2 c = at-digit _ _ (c .before .before .before .before .before .before .skip .ensures) (omega arith) (sym (c .before .before .before .is-digit .ensures) ∙ c .before .before .if2 .taken) (c .before .wide .ensures) (c .run .ensures)
+returns-2 c = at-digit _ _ (c .before .before .before .before .before .skip .ensures) (omega arith) (sym (c .before .before .is-digit .ensures) ∙ c .before .if2 .taken) (c .run .ensures)
 
 add-peek : tie.Need-add-peek
 add-peek c = search needs
@@ -42,8 +33,8 @@ peek-requires c κs = search needs
 pair-requires : tie.Need-pair-requires
 pair-requires c κs = search needs
 
-add-t15 : tie.Need-add-t15
-add-t15 c = search needs
+add-t12 : tie.Need-add-t12
+add-t12 c = search needs
 
 returns-3 : tie.Need-returns-3
 returns-3 c = at-two _ _ (c .before .before .before .before .before .before .before .skip .ensures) (omega arith) refl (c .before .before .peek .ensures) (sym (c .before .before .before .before .is-digit .ensures) ∙ c .before .before .before .if2 .left) (c .before .pair .ensures) (c .if3 .taken)
@@ -51,8 +42,8 @@ returns-3 c = at-two _ _ (c .before .before .before .before .before .before .bef
 single-requires : tie.Need-single-requires
 single-requires c κs = search needs
 
-add-t16 : tie.Need-add-t16
-add-t16 c = search needs
+add-t13 : tie.Need-add-t13
+add-t13 c = search needs
 
 returns-4 : tie.Need-returns-4
 returns-4 c = at-one _ _ (c .before .before .before .before .before .before .before .before .before .skip .ensures) (omega arith) refl (c .before .before .before .before .peek .ensures) (sym (c .before .before .before .before .before .before .is-digit .ensures) ∙ c .before .before .before .before .before .if2 .left) (c .before .before .before .pair .ensures) (c .before .before .if3 .left) (c .before .single .ensures) (c .if4 .taken)
@@ -71,18 +62,15 @@ token-at-spec =
     returns
     shared-slice-read-b
     is-digit-requires
-    add-run
-    sub-wide
-    wide-requires
     run-requires
     returns-2
     add-peek
     peek-requires
     pair-requires
-    add-t15
+    add-t12
     returns-3
     single-requires
-    add-t16
+    add-t13
     returns-4
     add-t7
     returns-5)

@@ -1,59 +1,57 @@
 -- `digit_on`: a digit, and a sum below 2^64, or no number (Digits).
+use mathlib.Core.Path.{sym, _∙_}
 use native.Mathlib.Omega.{arith}
+use borrow.Author.Tests.{not-true, not-false}
+use Rattle.text_digits.proofs.Digits.{digit-from, digit-other, digit-much, digit-fits}
 use borrow.Author.Needs.{needs}
-use Rattle.text_digits.proofs.Digits.{digit-low, digit-high, digit-much, digit-fits}
 use Rattle.text_digits.proofs.digit_on.Statement.{statement}
 use Rattle.text_digits.proofs.digit_on.Tie as tie
 
-returns : tie.Need-returns
-returns c = digit-low _ _ (c .if1 .taken)
+is-digit-requires : tie.Need-is-digit-requires
+is-digit-requires c κs = search needs
 
-returns-2 : tie.Need-returns-2
-returns-2 c = digit-high _ _ (c .if2 .taken)
+returns : tie.Need-returns
+returns c = digit-other (c .before .before .args .v) (c .before .before .args .ch) (sym (c .before .is-digit .ensures) ∙ not-true _ (c .if1 .taken))
+
+sub-wide : tie.Need-sub-wide
+sub-wide c = digit-from (c .before .before .args .ch) (sym (c .before .is-digit .ensures) ∙ not-false _ (c .if1 .left))
 
 wide-requires : tie.Need-wide-requires
 wide-requires c κs = search needs
 
+returns-2 : tie.Need-returns-2
+returns-2 c = digit-much (c .before .before .before .before .args .v) (c .before .before .before .before .args .ch) (sym (c .before .before .before .is-digit .ensures) ∙ not-false _ (c .before .before .if1 .left)) (omega arith)
+
+mul-if3 : tie.Need-mul-if3
+mul-if3 c = search needs
+
+sub-if3 : tie.Need-sub-if3
+sub-if3 c = search needs
+
 returns-3 : tie.Need-returns-3
-returns-3 c =
-    let at-if1 = c .before .before .before .if1 in
-    digit-much _ _ (at-if1 .left) (c .before .before .if2 .left) (omega arith)
+returns-3 c = digit-much (c .before .before .before .before .before .args .v) (c .before .before .before .before .before .args .ch) (sym (c .before .before .before .before .is-digit .ensures) ∙ not-false _ (c .before .before .before .if1 .left)) (omega arith)
 
-mul-if4 : tie.Need-mul-if4
-mul-if4 c = search needs
+mul-t7 : tie.Need-mul-t7
+mul-t7 c = search needs
 
-sub-if4 : tie.Need-sub-if4
-sub-if4 c = search needs
+add-t8 : tie.Need-add-t8
+add-t8 c = search needs
 
 returns-4 : tie.Need-returns-4
-returns-4 c =
-    let at-if1 = c .before .before .before .before .if1 in
-    let at-if2 = c .before .before .before .if2 in
-    digit-much _ _ (at-if1 .left) (at-if2 .left) (omega arith)
-
-mul-t6 : tie.Need-mul-t6
-mul-t6 c = search needs
-
-add-t7 : tie.Need-add-t7
-add-t7 c = search needs
-
-returns-5 : tie.Need-returns-5
-returns-5 c =
-    let at-if1 = c .before .before .before .before .if1 in
-    let at-if2 = c .before .before .before .if2 in
-    rw (c .before .before .wide .ensures) (digit-fits _ _ (at-if1 .left) (at-if2 .left) (omega arith))
+returns-4 c = rw (c .before .before .wide .ensures) (digit-fits (c .before .before .before .before .before .args .v) (c .before .before .before .before .before .args .ch) (sym (c .before .before .before .before .is-digit .ensures) ∙ not-false _ (c .before .before .before .if1 .left)) (omega arith))
 
 pub digit-on-spec : {M : Type 1} → statement M
 digit-on-spec =
     tie.close
     (tie.spec
+    is-digit-requires
     returns
-    returns-2
+    sub-wide
     wide-requires
+    returns-2
+    mul-if3
+    sub-if3
     returns-3
-    mul-if4
-    sub-if4
-    returns-4
-    mul-t6
-    add-t7
-    returns-5)
+    mul-t7
+    add-t8
+    returns-4)
