@@ -27,7 +27,7 @@ returns : tie.Need-returns
 returns c = let s : tie.Start = c .before .before .before in (no-tree (P s) (s .args .count) (s .args .root) (length (now (s .args .buffer))) (told (P s) (s .args .count) (s .args .root) (c .before .is-tree .ensures) (not-true _ (c .if1 .taken))), refl)
 
 put-node-requires : tie.Need-put-node-requires
-put-node-requires c κs = let s : tie.Start = c .before .before .before .before in sound (P s) (s .args .count) (s .args .root) (told (P s) (s .args .count) (s .args .root) (c .before .before .is-tree .ensures) (not-false _ (c .before .if1 .left)))
+put-node-requires c κs = let s : tie.Start = c .before .before .before .before in (sound (P s) (s .args .count) (s .args .root) (told (P s) (s .args .count) (s .args .root) (c .before .before .is-tree .ensures) (not-false _ (c .before .if1 .left))), omega arith)
 
 returns-2 : tie.Need-returns-2
 returns-2 c = let s : tie.Start = c .before .before .before .before .before .before in (a-tree (P s) (s .args .count) (s .args .root) (length (now (s .args .buffer))) (told (P s) (s .args .count) (s .args .root) (c .before .before .before .before .is-tree .ensures) (not-false _ (c .before .before .before .if1 .left))) (too-long (c .before .put-node .ensures) _ (c .if2 .taken)), refl)
