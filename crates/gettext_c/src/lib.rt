@@ -323,4 +323,3 @@ pub extern "C" fn gettext_c_why_ngettext<'a>(
     );
     host::explained_of(why, host::own_for(n))
 }
-

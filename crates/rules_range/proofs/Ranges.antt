@@ -1,24 +1,27 @@
 -- The answers of a rating at a place of a pool, by its code and its operands' ranges.
 use mathlib.Core.Path.{_≡_, refl, sym, ap, _∙_}
 use mathlib.Core.Bool.{Bool, true, false}
+use mathlib.Core.List.{List}
 use mathlib.Core.Option.{some}
-use Prim.Native.Nat.{ℕ, _+_, _-_, _*_, _/_, _%_, _^_, _<_, _≤_}
+use Prim.Native.Nat.{ℕ, _+_, _-_, _*_, _/_, _%_, _^_, _<_, _≤_, min, max}
 use native.Mathlib.Omega.{arith}
 use native.Mathlib.Nat.{mul-zero, mul-le-mul, le-div-iff-mul-le}
 use lib.Dec.{ltb, leb, eqb}
 use borrow.Author.Tests.{ltb-true, ltb-false, leb-true, leb-false, eqb-true, eqb-false, lt-ltb, le-ltb, le-leb, lt-leb, eq-eqb, ne-eqb}
 use Rattle.rules.specs.declared.Rating.{Rating}
 use Rattle.rules.specs.declared.Rating.the-variants.{Range, Unrated}
-use Rattle.rules.specs.Tree.{Tree, Op, cmp, calc, and, or, rem, div, var, int, bin, Calc, plus, minus, times}
+use Rattle.rules.specs.Tree.{Tree, Op, cmp, calc, and, or, rem, div, var, int, nay, bin, cond, Calc, plus, minus, times}
 use Rattle.rules.specs.Operator.{opOf, opAt, opCode, Named}
-use Rattle.rules.specs.Range.{rateTree, kept, opRange, notRange, binRange, condRange}
-use Rattle.rules.specs.Pool.{Pool, code, field, value, leaf, one, two, treeOf}
+use Rattle.rules.specs.Range.{fullRange, rateTree, kept, opRange, notRange, binRange, condRange}
+use Rattle.rules.specs.Pool.{Pool, code, field, value, leaf, one, two, joined, treeOf}
 use Rattle.rules.specs.Promise.{Sound}
 use Rattle.rules.proofs.Operators.{code-is, op-at}
 use Rattle.rules.proofs.InRange.{ordered}
 use Rattle.rules_operators.proofs.Operators.{is-rem, is-div}
 use Rattle.rules.proofs.Trees.{tree-leaf, tree-one, tree-two, tree-three, leaf-op, leaf-rest, one-op, two-op}
-use Rattle.rules_range.specs.Private.{Ordered, Joins}
+use Rattle.rules_tree.specs.Promise.{Run}
+use Rattle.rules_tree.proofs.Runs.{down-to}
+use Rattle.rules_range.specs.Private.{Joins, fromTo, Lifts}
 
 abbrev pub Count : Rating
 Count = Range 0 18446744073709551615
@@ -92,20 +95,77 @@ pub times-full : (k h l m : ℕ) → ltb (h * m) (2 ^ 64) ≡ false → Count �
 unfolding opRange kept
 times-full k h l m e = rw e
 
--- ranges whose lowest is not above their highest: that of a tree, and that of one number
-pub tree-ordered : {r : Rating} (t : Tree) → r ≡ rateTree t → Ordered r
-tree-ordered t g = record { is = λ l h e. ordered t l h (sym g ∙ e) }
+-- a range as two numbers
+pub range-of : (l h : ℕ) → l ≤ h → fromTo l h ≡ Range l h
+range-of l h e = rw (le-leb l h e)
 
-same-ends : {l h k m : ℕ} → Range l h ≡ Range k m → (l ≡ k) × (h ≡ m)
-same-ends e = (cc, cc)
+pub none-of : (l h : ℕ) → h < l → fromTo l h ≡ Unrated
+none-of l h e = rw (lt-leb l h e)
 
--- that of n % m
-pub rest-ordered : {m : ℕ} {x y : Rating} → x ≡ Range m m → Joins 8 Count x y → Ordered y
-unfolding rateTree opOf opAt
-rest-ordered {m} g j = tree-ordered (bin rem var (int m)) (j .is rem refl ∙ ap (λ (z : Rating). binRange rem Count z) g)
+pub ends-of : {l h r m : ℕ} → (r ≡ l) × (m ≡ h) → l ≤ h → fromTo r m ≡ Range l h
+ends-of {l} {h} (d, e) f = rw (d, e) (range-of l h f)
 
-pub ends-ordered : (l h : ℕ) {r : Rating} → r ≡ Range l h → l ≤ h → Ordered r
-ends-ordered l h g d = record { is = λ k m e. let z = same-ends (sym g ∙ e) in omega (arith, z .0, z .1) }
+pub none-by : {r m : ℕ} → (r ≡ 1) × (m ≡ 0) → fromTo r m ≡ Unrated
+none-by (d, e) = rw (d, e)
+
+-- that of !, and that of an integer
+pub nay-of : {l h r m : ℕ} → l ≤ h → (r ≡ 0) × (m ≡ 1) → fromTo r m ≡ notRange (fromTo l h)
+unfolding notRange
+nay-of {l} {h} a e = ends-of e (omega arith) ∙ rw (range-of l h a)
+
+pub picked-of : {l h : ℕ} → l ≡ h → fromTo l l ≡ Range h h
+picked-of {l} e = range-of l l (omega arith) ∙ rw e
+
+-- an operator's row is such a range too: that of a tree
+op-ordered : (op : Op) (k h l m lo hi : ℕ) → k ≤ h → l ≤ m → opRange op k h l m ≡ Range lo hi → lo ≤ hi
+unfolding rateTree binRange condRange
+op-ordered op k h l m lo hi a b e =
+    let c : min k h ≡ k = omega arith in
+    let d : max k h ≡ h = omega arith in
+    let f : min l m ≡ l = omega arith in
+    let g : max l m ≡ m = omega arith in
+    ordered (bin op (cond var (int k) (int h)) (cond var (int l) (int m))) lo hi (rw (c, d, f, g) e)
+
+-- a binary operator on two ranges: the left is none, the right is, the operator has none, or it has one
+module _ (op : Op) (k h l m : ℕ) where
+  pub left-none : {z : Rating} → h < k → z ≡ Unrated → z ≡ binRange op (fromTo k h) (fromTo l m)
+  unfolding binRange
+  left-none a e = e ∙ rw (none-of k h a)
+
+  pub right-none : {z : Rating} → k ≤ h → m < l → z ≡ Unrated → z ≡ binRange op (fromTo k h) (fromTo l m)
+  unfolding binRange
+  right-none a b e = e ∙ rw (range-of k h a, none-of l m b)
+
+  pub op-none : {r z : Rating} → k ≤ h → l ≤ m → r ≡ opRange op k h l m → r ≡ Unrated → z ≡ Unrated → z ≡ binRange op (fromTo k h) (fromTo l m)
+  unfolding binRange
+  op-none a b d f e = e ∙ sym f ∙ d ∙ rw (range-of k h a, range-of l m b)
+
+  pub op-some : {r : Rating} {lo hi i j : ℕ} → k ≤ h → l ≤ m → r ≡ opRange op k h l m → r ≡ Range lo hi → (i ≡ lo) × (j ≡ hi)
+      → fromTo i j ≡ binRange op (fromTo k h) (fromTo l m)
+  unfolding binRange
+  op-some {r} {lo} {hi} a b d f e =
+      ends-of e (op-ordered op k h l m lo hi a b (sym d ∙ f)) ∙ sym f ∙ d ∙ rw (range-of k h a, range-of l m b)
+
+-- ?: on two ranges, with a rated condition
+module _ (k h l m : ℕ) where
+  pub second-none : {z : Rating} → h < k → z ≡ Unrated → z ≡ condRange fullRange (fromTo k h) (fromTo l m)
+  unfolding condRange
+  second-none a e = e ∙ rw (none-of k h a)
+
+  pub third-none : {z : Rating} → k ≤ h → m < l → z ≡ Unrated → z ≡ condRange fullRange (fromTo k h) (fromTo l m)
+  unfolding condRange
+  third-none a b e = e ∙ rw (range-of k h a, none-of l m b)
+
+  pub both-arms : {i j : ℕ} → k ≤ h → l ≤ m → (i ≡ min k l) × (j ≡ max h m) → fromTo i j ≡ condRange fullRange (fromTo k h) (fromTo l m)
+  unfolding condRange
+  both-arms a b e = ends-of e (omega arith) ∙ rw (range-of k h a, range-of l m b)
+
+-- whichever range the condition has
+pub any-condition : (l h : ℕ) (x y : Rating) → l ≤ h → condRange (fromTo l h) x y ≡ condRange fullRange x y
+unfolding condRange
+any-condition l h (Range i j) (Range k m) e = rw (range-of l h e)
+any-condition l h (Range i j) Unrated e = rw (range-of l h e)
+any-condition l h Unrated y e = rw (range-of l h e)
 
 module _ (P : Pool) (p : ℕ) where
   abbrev ra : ℕ → Rating
@@ -130,16 +190,29 @@ module _ (P : Pool) (p : ℕ) where
     unfolding rateTree
     rate-op h l k e = rw (tree-leaf P p (omega arith), leaf-op (code P p) (field P p 0) (value P p) (k .is) h l, ← w) (e .is (k .op) (k .is))
 
-    pub rate-rest : {x m r : Rating} → 31 < code P p → code P p < 48 → Named (code P p % 16) → m ≡ Small → Joins 8 Count m x
+    pub rate-rest : {x r : Rating} {m : ℕ} → 31 < code P p → code P p < 48 → Named (code P p % 16) → m ≡ field P p 0 → x ≡ binRange rem Count (Range m m)
         → Joins (code P p % 16) x v r → r ≡ ra p
-    unfolding rateTree opOf opAt
+    unfolding rateTree
     rate-rest h l k d f e =
-        rw (tree-leaf P p l, leaf-rest (code P p) (field P p 0) (value P p) (k .is) h, ← w, ← d, ← f .is rem refl) (e .is (k .op) (k .is))
+        rw (tree-leaf P p l, leaf-rest (code P p) (field P p 0) (value P p) (k .is) h, ← w, ← d, ← f) (e .is (k .op) (k .is))
 
   module _ {b : Rating} (a : p - 1 < p) (g : b ≡ ra (p - 1)) where
     pub rate-nay : {r : Rating} → code P p ≡ 48 → r ≡ notRange b → r ≡ ra p
     unfolding rateTree
     rate-nay h e = rw (tree-one P p (omega arith) (omega arith) a, h, ← g) e
+
+    -- an operand that has none
+    pub rate-none : 47 < code P p → code P p < 80 → (63 < code P p → Named (code P p % 16)) → b ≡ Unrated → b ≡ ra p
+    unfolding rateTree notRange condRange binRange
+    rate-none h l k e = e ∙ rw (tree-one P p h l a, one) (go (eqb (code P p) 48) (ltb (code P p) 64) refl)
+      where
+        u : Unrated ≡ ra (p - 1)
+        u = sym e ∙ g
+
+        go : (i j : Bool) → ltb (code P p) 64 ≡ j → Unrated ≡ rateTree (elim i [ true ↦ nay (treeOf P (p - 1)) | false ↦ elim j [ true ↦ cond (treeOf P (p - 1)) (int (value P p)) (int (field P p 0)) | false ↦ joined (opOf (code P p % 16)) (treeOf P (p - 1)) (int (value P p)) ] ])
+        go true j f = rw (← u)
+        go false true f = rw (← u)
+        go false false f = rw (k (ltb-false (code P p) 64 f) .is, ← u)
 
     pub rate-picked : {v m r : Rating} → 47 < code P p → (code P p ≡ 48 → ⊥) → code P p < 64 → v ≡ Value → m ≡ Small → r ≡ condRange b v m → r ≡ ra p
     unfolding rateTree
@@ -159,6 +232,18 @@ module _ (P : Pool) (p : ℕ) where
           rw (tree-two P p h (omega arith) a f, two-op (code P p) 0 (value P p) (treeOf P (field P p 0)) (treeOf P (p - 1)) (k .is) l, ← g, ← i)
           (e .is (k .op) (k .is))
 
+      -- a condition that has none
+      pub rate-no-condition : 95 < code P p → (111 < code P p → field P p 1 < p) → {z : Rating} → x ≡ Unrated → z ≡ Unrated → z ≡ ra p
+      unfolding rateTree condRange
+      rate-no-condition h s {z} e d = d ∙ go (ltb (code P p) 112) refl
+        where
+          u : Unrated ≡ ra (field P p 0)
+          u = sym e ∙ i
+
+          go : (j : Bool) → ltb (code P p) 112 ≡ j → Unrated ≡ ra p
+          go true q = rw (tree-two P p (omega arith) (ltb-true (code P p) 112 q) a f, two, le-ltb (code P p) 96 h, ← u)
+          go false q = let j : 111 < code P p = ltb-false (code P p) 112 q in rw (tree-three P p j a f (s j), ← u)
+
       pub rate-chosen : {v r : Rating} → 95 < code P p → code P p < 112 → v ≡ Value → r ≡ condRange x v b → r ≡ ra p
       unfolding rateTree
       rate-chosen h l w e = rw (tree-two P p (omega arith) l a f, two, le-ltb (code P p) 96 h, ← g, ← i, ← w) e
@@ -173,3 +258,17 @@ moved P g e = rw (← e) g
 
 pub within : {P : Pool} {p : ℕ} → Sound P p → p < 512
 within s = omega (arith, s .inside, s .few)
+
+-- an operand place lies below its parent's
+pub falls-to : {P : Pool} {p q x t : ℕ} → Sound P p → 2 * p ≡ t → x < p → q ≡ x → (2 * q + 1 < t) × Sound P q
+falls-to s e l d = (omega arith, down-to s (omega arith))
+
+-- up a run, node by node
+pub on-run : {codes : List ℕ} {p e q : ℕ} → Run codes p e q → q + 1 ≤ p → Run codes p e (q + 1)
+on-run r h = record { below = h; all = λ i j k. r .all i (omega arith) k }
+
+pub lift-on : {P : Pool} {q r l h k m : ℕ} → r - 1 ≡ q → fromTo l h ≡ rateTree (treeOf P q) → Lifts P (r - 1) r l h k m → fromTo k m ≡ rateTree (treeOf P r)
+lift-on e g l = l .is (rw e g)
+
+pub ended : (P : Pool) {p q : ℕ} {r : Rating} → q ≤ p → p ≤ q → r ≡ rateTree (treeOf P q) → r ≡ rateTree (treeOf P p)
+ended P {p} {q} h k g = let e : q ≡ p = omega arith in rw (← e) g

@@ -5,16 +5,19 @@ use rules::Rating;
 use rules::field;
 use rules::node;
 use rules::place;
+use rules_tree::CODES;
+use rules_tree::base;
 ghost use mathlib.Core.Path.{_≡_};
 ghost use Prim.Native.Nat.{_+_, _-_, _<_, _≤_, _*_, _^_, min, max};
 ghost use lib.ListN.{getD};
 ghost use lib.Dec.{ltb};
 ghost use Rattle.rules.specs.declared.Rating.the-variants as rating;
-ghost use Rattle.rules.specs.Range.{notRange, condRange, rateTree};
+ghost use Rattle.rules.specs.Tree.{rem};
+ghost use Rattle.rules.specs.Range.{fullRange, binRange, condRange, rateTree};
 ghost use Rattle.rules.specs.Pool.{pool, treeOf};
 ghost use Rattle.rules.specs.Promise.{Sound};
 ghost use Rattle.rules.specs.Answer.{ratedOf, fitOf};
-ghost use Rattle.rules_range.specs.Private.{Ordered, Calculates, Ranges, Joins};
+ghost use Rattle.rules_range.specs.Private.{Calculates, Ranges, Joins, fromTo, Lifts};
 
 // The largest count, 2^64 - 1.
 const LARGEST: u64 = 0xffff_ffff_ffff_ffff;
@@ -98,109 +101,185 @@ fn ranged(op: u8, k: u64, h: u64, l: u64, m: u64) -> Rating
     Rating::Range(k / m, h / l)
 }
 
-// The range of a binary operator, by its operands'.
-fn binary(op: u8, left: Rating, right: Rating) -> Rating
-    requires { ⌜ Ordered left × Ordered right ⌝ }
-    ensures { λ r. ⌜ Joins op left right r ⌝ }
+// A range as two numbers: leaves the highest, and answers the lowest.
+fn ends(low: u64, highest: u64, high: &mut u64) -> u64
+    ensures { λ r. ⌜ (r ≡ low) × (now (high .exit) ≡ highest) ⌝ }
 {
-    let Rating::Range(k, h) = left else {
-        return Rating::Unrated;
-    };
-    let Rating::Range(l, m) = right else {
-        return Rating::Unrated; // reached or not
-    };
-    ranged(op, k, h, l, m)
+    *high = highest;
+    low
 }
 
-fn negation(operand: Rating) -> Rating
-    ensures { λ r. ⌜ r ≡ notRange operand ⌝ }
+// The same where there is none: the lowest is above the highest.
+fn unrated(high: &mut u64) -> u64
+    ensures { λ r. ⌜ fromTo r (now (high .exit)) ≡ rating.Unrated ⌝ }
 {
-    let Rating::Range(_, _) = operand else {
-        return Rating::Unrated;
-    };
-    Rating::Range(0, 1)
+    ends(1, 0, high)
 }
 
-fn ternary(first: Rating, second: Rating, third: Rating) -> Rating
-    ensures { λ r. ⌜ r ≡ condRange first second third ⌝ }
+// The range of a binary operator on a left operand from k to h and a right one from l.
+fn binary(op: u8, k: u64, h: u64, l: u64, high: &mut u64) -> u64
+    ensures { λ r. ⌜ Joins op (fromTo k h) (fromTo l (now (high .entry))) (fromTo r (now (high .exit))) ⌝ }
 {
-    let Rating::Range(_, _) = first else {
-        return Rating::Unrated;
+    let m = *high;
+    if h < k {
+        return unrated(high);
+    }
+    if m < l {
+        return unrated(high); // reached or not
+    }
+    let range = ranged(op, k, h, l, m);
+    let Rating::Range(low, highest) = range else {
+        return unrated(high);
     };
-    let Rating::Range(k, h) = second else {
-        return Rating::Unrated;
-    };
-    let Rating::Range(l, m) = third else {
-        return Rating::Unrated;
-    };
-    Rating::Range(least(k, l), most(h, m))
+    ends(low, highest, high)
 }
 
-fn integer(x: u64) -> Rating
-    ensures { λ r. ⌜ r ≡ rating.Range x x ⌝ }
+// The range of ?: with a rated condition, a second operand from k to h and a third one from l.
+fn either(k: u64, h: u64, l: u64, high: &mut u64) -> u64
+    ensures { λ r. ⌜ fromTo r (now (high .exit)) ≡ condRange fullRange (fromTo k h) (fromTo l (now (high .entry))) ⌝ }
 {
-    Rating::Range(x, x)
+    let m = *high;
+    if h < k {
+        return unrated(high);
+    }
+    if m < l {
+        return unrated(high);
+    }
+    ends(least(k, l), most(h, m), high)
 }
 
 // The integer in the first field of the node at a place.
-fn small<'a>(places: &'a [u16; 1024], at: usize) -> Rating
+fn small<'a>(places: &'a [u16; 1024], at: usize) -> u64
     requires { ⌜ at < 512 ⌝ }
-    ensures { λ r. ⌜ r ≡ rating.Range (getD (now (places .entry)) (2 * at + 0) 0) (getD (now (places .entry)) (2 * at + 0) 0) ⌝ }
+    ensures { λ r. ⌜ r ≡ getD (now (places .entry)) (2 * at + 0) 0 ⌝ }
 {
-    integer(field(places, at, 0) as u64)
+    field(places, at, 0) as u64
 }
 
-// The range of the tree at a place.
+// The range of n % m.
+fn rest(m: u64, high: &mut u64) -> u64
+    ensures { λ r. ⌜ fromTo r (now (high .exit)) ≡ binRange rem fullRange (rating.Range m m) ⌝ }
+{
+    *high = m;
+    binary(node::MODULO, 0, LARGEST, m, high)
+}
+
+// The range of a node that has no operand.
+fn leaf<'a>(
+    codes: &'a [u8; 512],
+    places: &'a [u16; 1024],
+    values: &'a [u64; 512],
+    at: usize,
+    high: &mut u64,
+) -> u64
+    requires sound { ⌜ Sound (pool (now codes) (now places) (now values)) at ⌝ }
+    requires leaf { ⌜ getD (now codes) at 0 < 48 ⌝ }
+    ensures { λ r. ⌜ fromTo r (now (high .exit)) ≡ rateTree (treeOf (pool (now (codes .entry)) (now (places .entry)) (now (values .entry))) at) ⌝ }
+{
+    let code = codes[at];
+    if code == node::N {
+        return ends(0, LARGEST, high);
+    }
+    let v = values[at];
+    *high = v;
+    if code < node::N_OP {
+        return v;
+    }
+    if code < node::REST_OP {
+        return binary(code % 16, 0, LARGEST, v, high);
+    }
+    let mut h = 0;
+    let k = rest(small(places, at), &mut h);
+    binary(code % 16, k, h, v, high)
+}
+
+// The range of a node with one operand, by its operand's.
+fn one<'a>(
+    codes: &'a [u8; 512],
+    places: &'a [u16; 1024],
+    values: &'a [u64; 512],
+    at: usize,
+    low: u64,
+    high: &mut u64,
+) -> u64
+    requires sound { ⌜ Sound (pool (now codes) (now places) (now values)) at ⌝ }
+    requires one { ⌜ (47 < getD (now codes) at 0) × (getD (now codes) at 0 < 80) ⌝ }
+    ensures { λ r. ⌜ Lifts (pool (now (codes .entry)) (now (places .entry)) (now (values .entry))) (at - 1) at
+        low (now (high .entry)) r (now (high .exit)) ⌝ }
+{
+    let h = *high;
+    if h < low {
+        return low;
+    }
+    let code = codes[at];
+    if code == node::NOT {
+        return ends(0, 1, high);
+    }
+    let v = values[at];
+    if code < node::VALUE_OP {
+        let m = small(places, at);
+        *high = m;
+        return either(v, v, m, high);
+    }
+    *high = v;
+    binary(code % 16, low, h, v, high)
+}
+
+// The range of a node with operands, by its last one's, which is the node before.
+fn above<'a>(
+    codes: &'a [u8; 512],
+    places: &'a [u16; 1024],
+    values: &'a [u64; 512],
+    at: usize,
+    low: u64,
+    high: &mut u64,
+) -> u64
+    requires sound { ⌜ Sound (pool (now codes) (now places) (now values)) at ⌝ }
+    requires above { ⌜ 47 < getD (now codes) at 0 ⌝ }
+    ensures { λ r. ⌜ Lifts (pool (now (codes .entry)) (now (places .entry)) (now (values .entry))) (at - 1) at
+        low (now (high .entry)) r (now (high .exit)) ⌝ }
+{
+    let code = codes[at];
+    if code < node::OP {
+        return one(codes, places, values, at, low, high);
+    }
+    let mut h = 0;
+    let first = rate(codes, places, values, place(places, at, 0), &mut h);
+    if code < node::CHOICE {
+        return binary(code % 16, first, h, low, high);
+    }
+    if h < first {
+        return unrated(high);
+    }
+    if code < node::TERNARY {
+        let v = values[at];
+        return either(v, v, low, high);
+    }
+    let second = rate(codes, places, values, place(places, at, 1), &mut h);
+    either(second, h, low, high)
+}
+
+// The range of the tree at a place: up from the leaf that its last operands end in, in a loop.
+//
+// It takes a frame of the stack where a first or a second operand is walked. Such a node has its last operand beside it, and no place is an
+// operand twice: 512 nodes, altered ones too, make 256 frames at most.
 fn rate<'a>(
     codes: &'a [u8; 512],
     places: &'a [u16; 1024],
     values: &'a [u64; 512],
     at: usize,
-) -> Rating
+    high: &mut u64,
+) -> u64
     requires { ⌜ Sound (pool (now codes) (now places) (now values)) at ⌝ }
-    ensures { λ r. ⌜ r ≡ rateTree (treeOf (pool (now (codes .entry)) (now (places .entry)) (now (values .entry))) at) ⌝ }
+    ensures { λ r. ⌜ fromTo r (now (high .exit)) ≡ rateTree (treeOf (pool (now (codes .entry)) (now (places .entry)) (now (values .entry))) at) ⌝ }
 {
-    let code = codes[at];
-    let count = Rating::Range(0, LARGEST);
-    if code == node::N {
-        return count;
+    let mut p = base(codes, at, CODES);
+    let mut low = leaf(codes, places, values, p, high);
+    while p < at {
+        p += 1;
+        low = above(codes, places, values, p, low, high);
     }
-    let value = integer(values[at]);
-    if code < node::N_OP {
-        return value;
-    }
-    if code < node::REST_OP {
-        return binary(code % 16, count, value);
-    }
-    if code < node::NOT {
-        return binary(
-            code % 16,
-            binary(node::MODULO, count, small(places, at)),
-            value,
-        );
-    }
-    let before = rate(codes, places, values, at - 1);
-    if code == node::NOT {
-        return negation(before);
-    }
-    if code < node::VALUE_OP {
-        return ternary(before, value, small(places, at));
-    }
-    if code < node::OP {
-        return binary(code % 16, before, value);
-    }
-    let first = rate(codes, places, values, place(places, at, 0));
-    if code < node::CHOICE {
-        return binary(code % 16, first, before);
-    }
-    if code < node::TERNARY {
-        return ternary(first, value, before);
-    }
-    ternary(
-        first,
-        rate(codes, places, values, place(places, at, 1)),
-        before,
-    )
+    low
 }
 
 // The range of a rule.
@@ -214,10 +293,11 @@ pub fn rating_of<'a>(
     ensures { λ r. ⌜ r ≡ ratedOf (pool (now (codes .entry)) (now (places .entry)) (now (values .entry))) count root ⌝ }
 {
     if rules_tree::is_tree(codes, places, count, root) {
-        let range = rate(codes, places, values, root);
-        let Rating::Range(lo, hi) = range else {
+        let mut hi = 0;
+        let lo = rate(codes, places, values, root, &mut hi);
+        if hi < lo {
             return Rated::Unrated;
-        };
+        }
         return Rated::Range(lo, hi);
     }
     Rated::NoTree

@@ -1,3 +1,4 @@
 mod Marks
+pub mod Runs
 pub mod Unique
 pub mod Cases

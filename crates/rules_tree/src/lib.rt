@@ -1,5 +1,5 @@
 // The test that the nodes of a rule are a tree, place by place with a mark for each operand. A record can be altered, so every
-// plural lookup and every rating begins with it.
+// plural lookup and every rating begins with it. And where a walk over them can go in a loop.
 use rules::node;
 use rules::place;
 ghost use mathlib.Core.Path.{_≡_};
@@ -8,7 +8,11 @@ ghost use mathlib.Core.List.{[]};
 ghost use Prim.Native.Nat.{_+_, _<_, _≤_, _*_};
 ghost use lib.ListN.{length, getD};
 ghost use Rattle.rules.specs.Pool.{pool, rows, known, used, shaped, isTree};
+ghost use Rattle.rules_tree.specs.Promise.{above, Stands};
 ghost use Rattle.rules_tree.specs.Private.{Unmarked, Marked, Took, Placed, Passes};
+
+// Above all codes.
+pub const CODES: u8 = 128;
 
 // Most rules have no more nodes, and so many marks are cleared at once.
 const FEW: usize = 64;
@@ -119,4 +123,28 @@ pub fn is_tree<'a>(codes: &'a [u8; 512], places: &'a [u16; 1024], count: usize, 
     }
     let mut marks = [0u8; 512];
     count <= passes(codes, places, &mut marks, count)
+}
+
+// Whether a node has an operand, and its code is below an end.
+fn is_above(code: u8, end: u8) -> bool
+    ensures { λ r. ⌜ r ≡ above code end ⌝ }
+{
+    if code < node::NOT {
+        return false;
+    }
+    code < end
+}
+
+// The place of the node that a run of nodes stands on, which ends at a place: each has an operand, of which the last is always the node before, and a
+// code below an end. So a walk goes up such a run in a loop and takes no stack for it: with the end `node::OP`, of nodes with one operand
+// only; with `CODES`, of all, and the run stands on a leaf.
+pub fn base<'a>(codes: &'a [u8; 512], at: usize, end: u8) -> usize
+    requires { ⌜ (at < 512) × (getD (now codes) 0 0 < 48) ⌝ }
+    ensures { λ r. ⌜ Stands (now (codes .entry)) at end r ⌝ }
+{
+    let mut p = at;
+    while is_above(codes[p], end) {
+        p -= 1;
+    }
+    p
 }

@@ -1,10 +1,14 @@
 -- The answers of an evaluation at a place of a pool, as a number and a flag, by its code and its operands' values.
 use mathlib.Core.Path.{_≡_, refl, sym, ap, _∙_}
 use mathlib.Core.Bool.{Bool, true, false}
-use Prim.Native.Nat.{ℕ, _-_, _<_, _≤_, _%_}
+use mathlib.Core.List.{List}
+use mathlib.Core.Logic.{⊎-elim}
+use Prim.Native.Nat.{ℕ, _+_, _*_, _-_, _<_, _≤_, _%_}
 use native.Mathlib.Omega.{arith}
+use native.Mathlib.Nat.{eq-or-lt-of-le}
+use lib.ListN.{getD}
 use lib.Dec.{eqb, ltb}
-use borrow.Author.Tests.{lt-ltb, le-ltb, ne-eqb, ltb-true, ltb-false}
+use borrow.Author.Tests.{le-leb, lt-ltb, le-ltb, ne-eqb, ltb-true, ltb-false}
 use Rattle.rules.specs.declared.Value.{Value}
 use Rattle.rules.specs.declared.Value.the-variants.{Is, ZeroModulus}
 use Rattle.rules.specs.Tree.{Tree, rem}
@@ -14,20 +18,13 @@ use Rattle.rules.specs.Pool.{Pool, code, field, value, leaf, one, two, treeOf}
 use Rattle.rules.specs.Promise.{Sound}
 use Rattle.rules_operators.specs.Operator.{settled, settledBy, Gives, Applies}
 use Rattle.rules_operators.proofs.Given.{number, fails-as, is-as, negation, first-arm, second-arm, left-alone, both, by-left}
-use Rattle.rules.proofs.Trees.{before-in, first-in, down, tree-leaf, tree-one, tree-two, tree-three, leaf-op, leaf-rest, one-op, two-op}
-use Rattle.rules_value.specs.Private.{firstAt}
+use Rattle.rules.proofs.Trees.{tree-leaf, tree-one, tree-two, tree-three, leaf-op, leaf-rest, one-op, two-op}
+use Rattle.rules_tree.specs.Promise.{above, Run}
+use Rattle.rules_tree.proofs.Runs.{down-to}
+use Rattle.rules_value.specs.Private.{Lifts}
 
 settles : (i x : ℕ) {s b : Bool} (k : Named i) → s ≡ settledBy (opOf i) x → s ≡ b → settled (k .op) x ≡ b
 settles i x k e d = ap (λ o. settledBy o x) (sym (k .is)) ∙ sym e ∙ d
-
-module _ {P : Pool} {p : ℕ} (s : Sound P p) where
-  -- the first operand is the place before, or a field's
-  pub first-down : {q t : ℕ} → p ≡ t → 47 < code P p → q ≡ firstAt (code P p) p (field P p 0) → (q < t) × Sound P q
-  first-down {q} {t} e h d = go (ltb (code P p) 80) refl
-    where
-      go : (b : Bool) → ltb (code P p) 80 ≡ b → (q < t) × Sound P q
-      go true f = down s e (before-in s h) (d ∙ rw (firstAt, f))
-      go false f = down s e (first-in s (ltb-false _ _ f)) (d ∙ rw (firstAt, f))
 
 module _ (P : Pool) (p n : ℕ) where
   abbrev ev : ℕ → Value
@@ -39,14 +36,6 @@ module _ (P : Pool) (p n : ℕ) where
   -- what was given at a place that is this one
   pub moved : {l : ℕ} {b c : Bool} {x : ℕ} → Gives (ev l) b c x → l ≡ p → Gives (ev p) b c x
   moved g e = rw (← e) g
-
-  -- what was given at the first operand's place
-  pub by-before : {q : ℕ} {b c : Bool} {x : ℕ} → code P p < 80 → q ≡ firstAt (code P p) p (field P p 0) → Gives (ev q) b c x → Gives (ev (p - 1)) b c x
-  by-before {q} h e g = let d : q ≡ p - 1 = e ∙ rw (firstAt, lt-ltb (code P p) 80 h) in rw (← d) g
-
-  pub by-field : {q : ℕ} {b c : Bool} {x : ℕ} → 79 < code P p → q ≡ firstAt (code P p) p (field P p 0) → Gives (ev q) b c x
-      → Gives (ev (field P p 0)) b c x
-  by-field {q} h e g = let d : q ≡ field P p 0 = e ∙ rw (firstAt, le-ltb (code P p) 80 h) in rw (← d) g
 
   pub at-count : {b : Bool} {r : ℕ} → code P p ≡ 0 → r ≡ n → Gives (ev p) b b r
   unfolding evalTree
@@ -129,12 +118,30 @@ module _ {v : Value} {r : ℕ} where
   pub whole : {c : Bool} → Gives v false c r → c ≡ false → Is r ≡ v
   whole g e = sym (is-as v g e)
 
--- what was given by one of two ways
-pub joined : {v : Value} {b c d : Bool} {x y : ℕ} → Gives v b c x → d ≡ c → y ≡ x → Gives v b d y
-joined g e f = rw (e, f) g
+-- from a place to itself, and on from there
+pub lift-none : {P : Pool} {p x : ℕ} {c : Bool} → Lifts P p p x c c x
+lift-none = record { gives = λ n b g. g }
+
+pub lift-more : {P : Pool} {p q r x y z : ℕ} {c d e : Bool} → r - 1 ≡ q → Lifts P p q x c d y → Lifts P (r - 1) r y d e z → Lifts P p r x c e z
+lift-more f k l = record { gives = λ n b g. l .gives n b (rw f (k .gives n b g)) }
 
 pub inside : {P : Pool} {p : ℕ} → Sound P p → p < 512
 inside s = omega (arith, s .inside, s .few)
+
+-- an operand place lies below its parent's, whichever of the two functions is called for it
+pub falls-to : {P : Pool} {p q x t : ℕ} → Sound P p → 2 * p ≡ t → x < p → q ≡ x → (2 * q + 1 < t) × Sound P q
+falls-to s e l d = (omega arith, down-to s (omega arith))
+
+pub lower : {P : Pool} {q t : ℕ} → (2 * q + 1 < t) × Sound P q → (2 * q < t) × Sound P q
+lower (l, s) = (omega arith, s)
+
+-- a run with one more node
+pub topped : {codes : List ℕ} {p q : ℕ} → p - 1 < p → Run codes (p - 1) 80 q → 47 < getD codes p 0 → getD codes p 0 < 80 → Run codes p 80 q
+topped {codes} {p} a r h l =
+    record {
+      below = omega (arith, r .below);
+      all = λ i j k. ⊎-elim (λ (e : i ≡ p). rw (e, le-leb 48 (getD codes p 0) h, lt-ltb (getD codes p 0) 80 l)) (λ m. r .all i j (omega arith)) (eq-or-lt-of-le k);
+    }
 
 pub over : {c : ℕ} → 48 ≤ c → (c ≡ 48 → ⊥) → 48 < c
 over h d = omega arith

@@ -7,15 +7,18 @@ use rules::place;
 use rules_operators::apply;
 use rules_operators::settles;
 use rules_operators::truth;
+use rules_tree::base;
 ghost use mathlib.Core.Path.{_≡_};
-ghost use Prim.Native.Nat.{_<_, _+_, _*_};
+ghost use mathlib.Core.Bool.{true};
+ghost use Prim.Native.Nat.{_<_, _+_, _-_, _*_};
 ghost use lib.ListN.{getD};
 ghost use Rattle.rules.specs.Value.{evalTree};
 ghost use Rattle.rules.specs.Pool.{pool, treeOf};
 ghost use Rattle.rules.specs.Promise.{Sound};
 ghost use Rattle.rules.specs.Answer.{resolvedOf};
 ghost use Rattle.rules_operators.specs.Operator.{Gives};
-ghost use Rattle.rules_value.specs.Private.{firstAt};
+ghost use Rattle.rules_tree.specs.Promise.{above, Run};
+ghost use Rattle.rules_value.specs.Private.{Lifts};
 
 // The integer in the first field of the node at a place.
 fn small<'a>(places: &'a [u16; 1024], at: usize) -> u64
@@ -23,17 +26,6 @@ fn small<'a>(places: &'a [u16; 1024], at: usize) -> u64
     ensures { λ r. ⌜ r ≡ getD (now (places .entry)) (2 * at + 0) 0 ⌝ }
 {
     field(places, at, 0) as u64
-}
-
-// The place of the first operand of a node.
-fn first<'a>(places: &'a [u16; 1024], at: usize, code: u8) -> usize
-    requires { ⌜ (at < 512) × (0 < at) ⌝ }
-    ensures { λ r. ⌜ r ≡ firstAt code at (getD (now (places .entry)) (2 * at + 0) 0) ⌝ }
-{
-    if code < node::OP {
-        return at - 1;
-    }
-    place(places, at, 0)
 }
 
 // The value of a node that has no operand.
@@ -65,8 +57,82 @@ fn leaf<'a>(
     apply(code % 16, x, v, zero)
 }
 
+// The value of a node with one operand, by its operand's.
+fn one<'a>(
+    codes: &'a [u8; 512],
+    places: &'a [u16; 1024],
+    values: &'a [u64; 512],
+    at: usize,
+    x: u64,
+    zero: &mut bool,
+) -> u64
+    requires sound { ⌜ Sound (pool (now codes) (now places) (now values)) at ⌝ }
+    requires one { ⌜ above (getD (now codes) at 0) 80 ≡ true ⌝ }
+    ensures { λ r. ⌜ Lifts (pool (now (codes .entry)) (now (places .entry)) (now (values .entry))) (at - 1) at
+        x (now (zero .entry)) (now (zero .exit)) r ⌝ }
+{
+    let code = codes[at];
+    if code == node::NOT {
+        return truth(x == 0);
+    }
+    if code < node::VALUE_OP {
+        if x == 0 {
+            return small(places, at);
+        }
+        return values[at];
+    }
+    apply(code % 16, x, values[at], zero)
+}
+
+// The value of the last of a run of nodes with one operand, by the value of the node that the run stands on.
+fn up<'a>(
+    codes: &'a [u8; 512],
+    places: &'a [u16; 1024],
+    values: &'a [u64; 512],
+    base: usize,
+    at: usize,
+    x: u64,
+    zero: &mut bool,
+) -> u64
+    requires sound { ⌜ Sound (pool (now codes) (now places) (now values)) at ⌝ }
+    requires run { ⌜ Run (now codes) at 80 base ⌝ }
+    ensures { λ r. ⌜ Lifts (pool (now (codes .entry)) (now (places .entry)) (now (values .entry))) base at
+        x (now (zero .entry)) (now (zero .exit)) r ⌝ }
+{
+    let mut p = base;
+    let mut y = x;
+    while p < at {
+        p += 1;
+        y = one(codes, places, values, p, y, zero);
+    }
+    y
+}
+
+// The value of an operand. A leaf is answered without a call of `eval`.
+fn operand<'a>(
+    codes: &'a [u8; 512],
+    places: &'a [u16; 1024],
+    values: &'a [u64; 512],
+    at: usize,
+    n: u64,
+    zero: &mut bool,
+) -> u64
+    requires { ⌜ Sound (pool (now codes) (now places) (now values)) at ⌝ }
+    ensures { λ r. ⌜ Gives (evalTree (treeOf (pool (now (codes .entry)) (now (places .entry)) (now (values .entry))) at) n)
+        (now (zero .entry)) (now (zero .exit)) r ⌝ }
+{
+    if codes[at] < node::NOT {
+        return leaf(codes, places, values, at, n, zero);
+    }
+    eval(codes, places, values, at, n, zero)
+}
+
 // The value of the tree at a place. A remainder by zero that is met sets the flag, and the walk goes on: whatever is met is needed, so
-// no number counts then. A leaf as first operand is answered without a call of this function.
+// no number counts then.
+//
+// It takes a frame of the stack for a node with two or three operands, and one for a run of nodes with one. The first has another operand
+// beside the one that is walked, the second stands on one of the first or on a leaf, and no place is an operand twice: two frames have
+// three nodes at least, and 512 nodes, altered ones too, make 341 frames at most.
 fn eval<'a>(
     codes: &'a [u8; 512],
     places: &'a [u16; 1024],
@@ -83,24 +149,12 @@ fn eval<'a>(
     if code < node::NOT {
         return leaf(codes, places, values, at, n, zero);
     }
-    let first = first(places, at, code);
-    let x = if codes[first] < node::NOT {
-        leaf(codes, places, values, first, n, zero)
-    } else {
-        eval(codes, places, values, first, n, zero)
-    };
     if code < node::OP {
-        if code == node::NOT {
-            return truth(x == 0);
-        }
-        if code < node::VALUE_OP {
-            if x == 0 {
-                return small(places, at);
-            }
-            return values[at];
-        }
-        return apply(code % 16, x, values[at], zero);
+        let base = base(codes, at - 1, node::OP);
+        let x = operand(codes, places, values, base, n, zero);
+        return up(codes, places, values, base, at, x, zero);
     }
+    let x = operand(codes, places, values, place(places, at, 0), n, zero);
     if node::CHOICE <= code {
         if x == 0 {
             return eval(codes, places, values, at - 1, n, zero);

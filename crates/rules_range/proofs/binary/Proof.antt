@@ -1,49 +1,60 @@
 -- `rules_range::binary` meets its contract: the definition at each operand's range.
-use mathlib.Core.Path.{_∙_}
-use Rattle.rules.specs.Range.{binRange}
+use denote.Ref.{now}
+use Rattle.rules_range.proofs.Ranges.{left-none, right-none, op-none, op-some}
 use borrow.Author.Needs.{needs}
 use Rattle.rules_range.proofs.binary.Statement.{statement}
 use Rattle.rules_range.proofs.binary.Tie as tie
 use Rattle.rules_range.proofs.binary.Reads as reads
 use Rattle.rules_range.proofs.binary.Lts as lts
+use Rattle.rules_range.proofs.ends.Reads as ends-reads
 use Rattle.rules_range.proofs.ranged.Reads as ranged-reads
+use Rattle.rules_range.proofs.unrated.Reads as unrated-reads
 
-enum-known-left : tie.Need-enum-known-left
-enum-known-left c = search needs
+unrated-requires : tie.Need-unrated-requires
+unrated-requires c κs = search needs
+
+returns : tie.Need-returns
+returns c = let s : tie.Start = c .before .before .before .before in record { is = λ op e. left-none op (s .args .k) (s .args .h) (s .args .l) (now (s .args .high)) (c .before .before .if1 .taken) (c .unrated .ensures) }
+
+unrated-requires-2 : tie.Need-unrated-requires-2
+unrated-requires-2 c κs = search needs
+
+returns-2 : tie.Need-returns-2
+returns-2 c = let s : tie.Start = c .before .before .before .before .before in record { is = λ op e. right-none op (s .args .k) (s .args .h) (s .args .l) (now (s .args .high)) (c .before .before .before .if1 .left) (c .before .before .if2 .taken) (c .unrated2 .ensures) }
+
+ranged-requires : tie.Need-ranged-requires
+ranged-requires c κs = search needs
+
+enum-known-range : tie.Need-enum-known-range
+enum-known-range c = search needs
 
 enum-told : tie.Need-enum-told
 enum-told c = search needs
 
-returns : tie.Need-returns
-unfolding binRange
-returns c = record { is = λ op e. rw (c .enum-told .given .1) }
-
-enum-known-right : tie.Need-enum-known-right
-enum-known-right c = search needs
-
-enum-told-2 : tie.Need-enum-told-2
-enum-told-2 c = search needs
-
-returns-2 : tie.Need-returns-2
-unfolding binRange
-returns-2 c = record { is = λ op e. rw (c .before .before .before .left .given .1, c .enum-told2 .given .1) }
-
-ranged-requires : tie.Need-ranged-requires
-ranged-requires c κs = let s : tie.Start = c .before .before .before .before .before .before in (s .pre .0 .is _ _ (c .before .before .before .before .left .given .1), s .pre .1 .is _ _ (c .before .right .given .1))
+unrated-requires-3 : tie.Need-unrated-requires-3
+unrated-requires-3 c κs = search needs
 
 returns-3 : tie.Need-returns-3
-unfolding binRange
-returns-3 c = record { is = λ op e. c .ranged .ensures .is op e ∙ rw (c .before .before .before .before .before .left .given .1, c .before .before .right .given .1) }
+returns-3 c = let s : tie.Start = c .before .before .before .before .before .before .before .before in record { is = λ op e. op-none op (s .args .k) (s .args .h) (s .args .l) (now (s .args .high)) (c .before .before .before .before .before .before .if1 .left) (c .before .before .before .before .before .if2 .left) (c .before .before .before .before .ranged .ensures .is op e) (c .before .before .enum-told .given .1) (c .unrated3 .ensures) }
+
+ends-requires : tie.Need-ends-requires
+ends-requires c κs = search needs
+
+returns-4 : tie.Need-returns-4
+returns-4 c = let s : tie.Start = c .before .before .before .before .before .before .before .before .before in record { is = λ op e. op-some op (s .args .k) (s .args .h) (s .args .l) (now (s .args .high)) (c .before .before .before .before .before .before .before .if1 .left) (c .before .before .before .before .before .before .if2 .left) (c .before .before .before .before .before .ranged .ensures .is op e) (c .before .before .before .range .given .1) (c .ends .ensures) }
 
 pub binary-spec : {M : Type 1} → statement M
 binary-spec =
     tie.close
     (tie.spec
-    enum-known-left
-    enum-told
+    unrated-requires
     returns
-    enum-known-right
-    enum-told-2
+    unrated-requires-2
     returns-2
     ranged-requires
-    returns-3)
+    enum-known-range
+    enum-told
+    unrated-requires-3
+    returns-3
+    ends-requires
+    returns-4)
