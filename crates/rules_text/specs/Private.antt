@@ -1,19 +1,17 @@
 -- What the functions behind the public one promise.
-use Prim.Native.Nat.{ℕ, _+_, _*_, _≤_}
-use Prim.Native.Char.{code}
+use Prim.Native.Nat.{ℕ, _+_, _<_, _≤_, _%_, _^_}
+use Prim.Native.Char.{code as char}
 use mathlib.Core.Path.{_≡_}
-use mathlib.Core.Bool.{Bool, true, false, _||_}
+use mathlib.Core.Bool.{true, false}
 use mathlib.Core.List.{List, [], _∷_, _++_}
 use mathlib.Core.Option.{Option, none, some}
 use lib.ListN.{length}
 use lib.Seq.{sets}
-use lib.Dec.{leb, eqb}
-use Rattle.rules.specs.Tree.{Tree, var, int, nay, bin, cond, Op, rem}
-use Rattle.rules.specs.Pool.{Pool, treeOf}
-use Rattle.rules.specs.Promise.{Sound}
-use Rattle.rules_text.specs.declared.Part.{Part}
-use Rattle.rules_text.specs.declared.Part.the-variants.{N, Number, Rest, Node}
-use Rattle.rules_text.specs.Bracketed.{signOf, bracketed}
+use lib.Dec.{leb, ltb, eqb}
+use Rattle.rules.specs.Tree.{Tree, Op, int}
+use Rattle.rules.specs.Operator.{opOf}
+use Rattle.rules.specs.Pool.{Pool, code, field, value, treeOf}
+use Rattle.rules_text.specs.Bracketed.{decimal, signOf, bracketed}
 use Rattle.rules_text.specs.Bounded.{Bounded}
 
 -- the place after a text; 513 if it does not fit
@@ -25,76 +23,79 @@ pub record Puts (s : List ℕ) (at : ℕ) (old new : List ℕ) (r : ℕ) : Type 
   pub end : r ≡ ended at s
   pub text : at + length s ≤ 512 → new ≡ sets old at s
 
--- the text of a tree was put, whose integers are below 2^64
-pub record PutsTree (t : Tree) (at : ℕ) (old new : List ℕ) (r : ℕ) : Type 0 where
-  pub text : Puts (bracketed t) at old new r
-  pub bounded : Bounded t
+-- a text was put, and B says of the integers in it that they are below 2^64
+pub record PutsWith (B : Type 0) (s : List ℕ) (at : ℕ) (old new : List ℕ) (r : ℕ) : Type 0 where
+  pub text : Puts s at old new r
+  pub bounded : B
+
+abbrev pub PutsTree : Tree → ℕ → List ℕ → List ℕ → ℕ → Type 0
+PutsTree t = PutsWith (Bounded t) (bracketed t)
 
 abbrev pub signBy : Option Op → List ℕ
 signBy (some op) = signOf op
 signBy none = []
 
--- the operands of an operator, and what stands before the last one
-abbrev pub firstOf : Tree → Tree
-firstOf var = var
-firstOf (int v) = var
-firstOf (nay t) = var
-firstOf (bin op s t) = s
-firstOf (cond s t u) = s
+-- the bytes of the operators by their numbers; 0 if there is no second one
+abbrev pub firsts : List ℕ
+firsts = 61 ∷ 33 ∷ 62 ∷ 60 ∷ 62 ∷ 60 ∷ 38 ∷ 124 ∷ 37 ∷ 47 ∷ 43 ∷ 45 ∷ 42 ∷ []
 
-abbrev pub secondOf : Tree → Tree
-secondOf var = var
-secondOf (int v) = var
-secondOf (nay t) = var
-secondOf (bin op s t) = var
-secondOf (cond s t u) = t
+abbrev pub seconds : List ℕ
+seconds = 61 ∷ 61 ∷ 61 ∷ 61 ∷ 0 ∷ 0 ∷ 38 ∷ 124 ∷ 0 ∷ 0 ∷ 0 ∷ 0 ∷ 0 ∷ []
 
-abbrev pub lastOf : Tree → Tree
-lastOf var = var
-lastOf (int v) = var
-lastOf (nay t) = t
-lastOf (bin op s t) = t
-lastOf (cond s t u) = u
+-- an operator and an integer as its last operand
+abbrev pub valued : ℕ → ℕ → List ℕ
+valued i v = signBy (opOf i) ++ decimal v ++ char ")" ∷ []
 
-abbrev pub leadOf : Tree → List ℕ
-leadOf var = []
-leadOf (int v) = []
-leadOf (nay t) = code "!" ∷ []
-leadOf (bin op s t) = bracketed s ++ signOf op
-leadOf (cond s t u) = bracketed s ++ code "?" ∷ bracketed t ++ code ":" ∷ []
+abbrev pub PutsValue : ℕ → ℕ → ℕ → List ℕ → List ℕ → ℕ → Type 0
+PutsValue i v = PutsWith (v < 2 ^ 64) (valued i v)
 
--- what stands before the last operand of an operator was put
-pub record PutsLead (t : Tree) (at : ℕ) (old new : List ℕ) (r : ℕ) : Type 0 where
-  pub text : Puts (leadOf t) at old new r
-  pub bounded : Bounded (firstOf t) × Bounded (secondOf t)
+-- what stands before the node before in the text of the node at p, after its bracket, if that node is its last operand
+abbrev pub leadOf : Pool → ℕ → List ℕ
+leadOf P p =
+    elim (ltb (code P p) 96) [
+      | true ↦ bracketed (treeOf P (field P p 0)) ++ signBy (opOf (code P p % 16))
+      | false ↦ bracketed (treeOf P (field P p 0)) ++ char "?" ∷ elim (ltb (code P p) 112) [ true ↦ decimal (value P p) | false ↦ bracketed (treeOf P (field P p 1)) ] ++ char ":" ∷ []
+    ]
 
--- the codes of ?:
-abbrev pub ternary : ℕ → Bool
-ternary c = eqb c 49 || leb 96 c
+-- with its bracket, and whichever operand it is
+abbrev pub headOf : Pool → ℕ → List ℕ
+headOf P p =
+    char "(" ∷ elim (eqb (code P p) 48) [ true ↦ char "!" ∷ [] | false ↦ elim (ltb (code P p) 80) [ true ↦ [] | false ↦ leadOf P p ] ]
 
--- the tree of a part
-abbrev pub partTree : Pool → Part → Tree
-partTree P N = var
-partTree P (Number v) = int v
-partTree P (Rest m) = bin rem var (int m)
-partTree P (Node p) = treeOf P p
+-- what stands after it
+abbrev pub tailOf : Pool → ℕ → List ℕ
+tailOf P p =
+    elim (eqb (code P p) 48) [
+      | true ↦ char ")" ∷ []
+      | false ↦ elim (ltb (code P p) 64) [
+        | true ↦ char "?" ∷ decimal (value P p) ++ char ":" ∷ decimal (field P p 0) ++ char ")" ∷ []
+        | false ↦ elim (ltb (code P p) 80) [ true ↦ valued (code P p % 16) (value P p) | false ↦ char ")" ∷ [] ]
+      ]
+    ]
 
--- its place, if it is a node, is sound
-abbrev pub Held : Pool → Part → Type 0
-Held P N = Unit {0}
-Held P (Number v) = Unit {0}
-Held P (Rest m) = Unit {0}
-Held P (Node p) = Sound P p
+-- the integers that stand before it, and after it, are below 2^64
+abbrev pub HeadBounded : Pool → ℕ → Type 0
+HeadBounded P p =
+    elim (ltb (code P p) 80) [
+      | true ↦ Unit {0}
+      | false ↦ elim (ltb (code P p) 96) [
+        | true ↦ Bounded (treeOf P (field P p 0))
+        | false ↦ Bounded (treeOf P (field P p 0)) × Bounded (elim (ltb (code P p) 112) [ true ↦ int (value P p) | false ↦ treeOf P (field P p 1) ])
+      ]
+    ]
 
--- how far a walk goes down from it: more than from the operator whose operands it has, less than from the one whose operand it is
-abbrev pub depth : Part → ℕ
-depth N = 0
-depth (Number v) = 0
-depth (Rest m) = 0
-depth (Node p) = 4 * p + 3
+abbrev pub TailBounded : Pool → ℕ → Type 0
+TailBounded P p =
+    elim (eqb (code P p) 48) [
+      | true ↦ Unit {0}
+      | false ↦ elim (ltb (code P p) 64) [
+        | true ↦ (value P p < 2 ^ 64) × (field P p 0 < 2 ^ 64)
+        | false ↦ elim (ltb (code P p) 80) [ true ↦ value P p < 2 ^ 64 | false ↦ Unit {0} ]
+      ]
+    ]
 
--- it is an operand of the node at p: the tree t
-pub record Operand (P : Pool) (p : ℕ) (t : Tree) (r : Part) : Type 0 where
-  pub is : partTree P r ≡ t
-  pub held : Held P r
-  pub under : depth r ≤ 4 * p
+abbrev pub PutsHead : Pool → ℕ → ℕ → List ℕ → List ℕ → ℕ → Type 0
+PutsHead P p = PutsWith (HeadBounded P p) (headOf P p)
+
+abbrev pub PutsTail : Pool → ℕ → ℕ → List ℕ → List ℕ → ℕ → Type 0
+PutsTail P p = PutsWith (TailBounded P p) (tailOf P p)

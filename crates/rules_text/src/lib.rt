@@ -3,8 +3,9 @@
 use rules::field;
 use rules::node;
 use rules::place;
+use rules_tree::CODES;
+use rules_tree::base;
 ghost use mathlib.Core.Path.{_≡_};
-ghost use mathlib.Core.Bool.{true};
 ghost use mathlib.Core.List.{[], _∷_};
 ghost use Prim.Native.Nat.{_<_, _≤_, min};
 ghost use lib.ListN.{length, getD};
@@ -15,7 +16,7 @@ ghost use Rattle.rules.specs.Pool.{pool, treeOf};
 ghost use Rattle.rules.specs.Promise.{Sound};
 ghost use Rattle.rules_text.specs.Bracketed.{bracketed};
 ghost use Rattle.rules_text.specs.Writing.{writingOf, leftBy, BoundedBy};
-ghost use Rattle.rules_text.specs.Private.{Puts, PutsTree, PutsLead, signBy, firstOf, secondOf, lastOf, ternary, partTree, Held, Operand};
+ghost use Rattle.rules_text.specs.Private.{firsts, seconds, Puts, PutsTree, PutsValue, PutsHead, PutsTail, signBy};
 
 // The most bytes of a rule's text.
 const MOST: usize = 512;
@@ -28,32 +29,48 @@ pub enum Writing {
     NoTree,
 }
 
-// What an operator stands beside: n, an integer, n % m, or the node at a place.
-enum Part {
-    N,
-    Number(u64),
-    Rest(u64),
-    Node(usize),
+// The bytes of each operator by its number; one byte and 0 if it has one only. Not as tables: those would lie in every frame of `put_node`.
+fn first_byte(op: u8) -> u8
+    ensures { λ r. ⌜ r ≡ getD firsts op 0 ⌝ }
+{
+    match op {
+        node::EQUAL => b'=',
+        node::NOT_EQUAL => b'!',
+        node::GREATER_OR_EQUAL => b'>',
+        node::SMALLER_OR_EQUAL => b'<',
+        node::GREATER => b'>',
+        node::SMALLER => b'<',
+        node::AND => b'&',
+        node::OR => b'|',
+        node::MODULO => b'%',
+        node::DIVIDE => b'/',
+        node::PLUS => b'+',
+        node::MINUS => b'-',
+        node::TIMES => b'*',
+        _ => 0,
+    }
 }
 
-// The bytes of each operator by its number; one byte and 0 if it has one only.
-const FIRST: [u8; 13] = [
-    b'=',
-    b'!',
-    b'>',
-    b'<',
-    b'>',
-    b'<',
-    b'&',
-    b'|',
-    b'%',
-    b'/',
-    b'+',
-    b'-',
-    b'*',
-];
-
-const SECOND: [u8; 13] = [b'=', b'=', b'=', b'=', 0, 0, b'&', b'|', 0, 0, 0, 0, 0];
+fn second_byte(op: u8) -> u8
+    ensures { λ r. ⌜ r ≡ getD seconds op 0 ⌝ }
+{
+    match op {
+        node::EQUAL => b'=',
+        node::NOT_EQUAL => b'=',
+        node::GREATER_OR_EQUAL => b'=',
+        node::SMALLER_OR_EQUAL => b'=',
+        node::GREATER => 0,
+        node::SMALLER => 0,
+        node::AND => b'&',
+        node::OR => b'|',
+        node::MODULO => 0,
+        node::DIVIDE => 0,
+        node::PLUS => 0,
+        node::MINUS => 0,
+        node::TIMES => 0,
+        _ => 0,
+    }
+}
 
 // Puts a byte, and tells the place after it. A text that does not fit ends at 513, wherever it began.
 fn put_byte(out: &mut [u8; 512], at: usize, b: u8) -> usize
@@ -93,115 +110,26 @@ fn put_sign(out: &mut [u8; 512], at: usize, op: u8) -> usize
     requires { ⌜ Named op ⌝ }
     ensures { λ r. ⌜ Puts (signBy (opOf op)) at (now (out .entry)) (now (out .exit)) r ⌝ }
 {
-    let second = put_byte(out, at, FIRST[op as usize]);
-    let b = SECOND[op as usize];
+    let second = put_byte(out, at, first_byte(op));
+    let b = second_byte(op);
     if b == 0 {
         return second;
     }
     put_byte(out, second, b)
 }
 
-// Whether an operator's code is one of ?:
-fn is_ternary(code: u8) -> bool
-    ensures { λ r. ⌜ r ≡ ternary code ⌝ }
+// Puts an operator and the integer that is its last operand, and closes its bracket.
+fn put_value(out: &mut [u8; 512], at: usize, op: u8, v: u64) -> usize
+    requires { ⌜ Named op ⌝ }
+    ensures { λ r. ⌜ PutsValue op v at (now (out .entry)) (now (out .exit)) r ⌝ }
 {
-    if code == node::PICK {
-        return true;
-    }
-    node::CHOICE <= code
+    let number = put_sign(out, at, op);
+    let close = put_number(out, number, v);
+    put_byte(out, close, b')')
 }
 
-// The first operand of the operator at a place that has two or three.
-fn first<'a>(
-    codes: &'a [u8; 512],
-    places: &'a [u16; 1024],
-    values: &'a [u64; 512],
-    at: usize,
-) -> Part
-    requires sound { ⌜ Sound (pool (now codes) (now places) (now values)) at ⌝ }
-    requires more { ⌜ (15 < getD (now codes) at 0) × (getD (now codes) at 0 ≡ 48 → ⊥) ⌝ }
-    ensures { λ r. ⌜ Operand (pool (now (codes .entry)) (now (places .entry)) (now (values .entry)))
-        at (firstOf (treeOf (pool (now (codes .entry)) (now (places .entry)) (now (values .entry))) at)) r ⌝ }
-{
-    let code = codes[at];
-    if code < node::REST_OP {
-        return Part::N;
-    }
-    if code < node::NOT {
-        return Part::Rest(field(places, at, 0) as u64);
-    }
-    if code < node::OP {
-        return Part::Node(at - 1);
-    }
-    Part::Node(place(places, at, 0))
-}
-
-// The second of three.
-fn second<'a>(
-    codes: &'a [u8; 512],
-    places: &'a [u16; 1024],
-    values: &'a [u64; 512],
-    at: usize,
-) -> Part
-    requires sound { ⌜ Sound (pool (now codes) (now places) (now values)) at ⌝ }
-    requires three { ⌜ ternary (getD (now codes) at 0) ≡ true ⌝ }
-    ensures { λ r. ⌜ Operand (pool (now (codes .entry)) (now (places .entry)) (now (values .entry)))
-        at (secondOf (treeOf (pool (now (codes .entry)) (now (places .entry)) (now (values .entry))) at)) r ⌝ }
-{
-    if codes[at] < node::TERNARY {
-        return Part::Number(values[at]);
-    }
-    Part::Node(place(places, at, 1))
-}
-
-// The last operand of the operator at a place.
-fn last<'a>(
-    codes: &'a [u8; 512],
-    places: &'a [u16; 1024],
-    values: &'a [u64; 512],
-    at: usize,
-) -> Part
-    requires sound { ⌜ Sound (pool (now codes) (now places) (now values)) at ⌝ }
-    requires operator { ⌜ 1 < getD (now codes) at 0 ⌝ }
-    ensures { λ r. ⌜ Operand (pool (now (codes .entry)) (now (places .entry)) (now (values .entry)))
-        at (lastOf (treeOf (pool (now (codes .entry)) (now (places .entry)) (now (values .entry))) at)) r ⌝ }
-{
-    let code = codes[at];
-    if node::OP <= code {
-        return Part::Node(at - 1);
-    }
-    if code == node::NOT {
-        return Part::Node(at - 1);
-    }
-    if code == node::PICK {
-        return Part::Number(field(places, at, 0) as u64);
-    }
-    Part::Number(values[at])
-}
-
-// Puts the text of a part.
-fn put_part<'a>(
-    codes: &'a [u8; 512],
-    places: &'a [u16; 1024],
-    values: &'a [u64; 512],
-    part: Part,
-    out: &mut [u8; 512],
-    at: usize,
-) -> usize
-    requires { ⌜ Held (pool (now codes) (now places) (now values)) part ⌝ }
-    ensures { λ r. ⌜ PutsTree (partTree (pool (now (codes .entry)) (now (places .entry)) (now (values .entry))) part)
-        at (now (out .entry)) (now (out .exit)) r ⌝ }
-{
-    match part {
-        Part::N => put_byte(out, at, b'n'),
-        Part::Number(v) => put_number(out, at, v),
-        Part::Rest(m) => put_rest(out, at, m),
-        Part::Node(p) => put_node(codes, places, values, p, out, at),
-    }
-}
-
-// Puts what stands before the last operand of the operator at a place.
-fn put_lead<'a>(
+// Puts the text of a node that has no operand.
+fn put_leaf<'a>(
     codes: &'a [u8; 512],
     places: &'a [u16; 1024],
     values: &'a [u64; 512],
@@ -210,26 +138,95 @@ fn put_lead<'a>(
     at: usize,
 ) -> usize
     requires sound { ⌜ Sound (pool (now codes) (now places) (now values)) p ⌝ }
-    requires operator { ⌜ 1 < getD (now codes) p 0 ⌝ }
-    ensures { λ r. ⌜ PutsLead (treeOf (pool (now (codes .entry)) (now (places .entry)) (now (values .entry))) p)
-        at (now (out .entry)) (now (out .exit)) r ⌝ }
+    requires leaf { ⌜ getD (now codes) p 0 < 48 ⌝ }
+    ensures { λ r. ⌜ PutsTree (treeOf (pool (now (codes .entry)) (now (places .entry)) (now (values .entry))) p) at (now (out .entry)) (now (out .exit)) r ⌝ }
+{
+    let code = codes[p];
+    if code == node::N {
+        return put_byte(out, at, b'n');
+    }
+    let v = values[p];
+    if code < node::N_OP {
+        return put_number(out, at, v);
+    }
+    let left = put_byte(out, at, b'(');
+    if code < node::REST_OP {
+        let sign = put_byte(out, left, b'n');
+        return put_value(out, sign, code % 16, v);
+    }
+    let sign = put_rest(out, left, field(places, p, 0) as u64);
+    put_value(out, sign, code % 16, v)
+}
+
+// Puts what stands after the node before, in the text of the node at a place that has operands.
+fn put_tail<'a>(
+    codes: &'a [u8; 512],
+    places: &'a [u16; 1024],
+    values: &'a [u64; 512],
+    p: usize,
+    out: &mut [u8; 512],
+    at: usize,
+) -> usize
+    requires sound { ⌜ Sound (pool (now codes) (now places) (now values)) p ⌝ }
+    requires above { ⌜ 47 < getD (now codes) p 0 ⌝ }
+    ensures { λ r. ⌜ PutsTail (pool (now (codes .entry)) (now (places .entry)) (now (values .entry))) p at (now (out .entry)) (now (out .exit)) r ⌝ }
 {
     let code = codes[p];
     if code == node::NOT {
-        return put_byte(out, at, b'!');
+        return put_byte(out, at, b')');
     }
-    let part = first(codes, places, values, p);
-    let sign = put_part(codes, places, values, part, out, at);
-    if is_ternary(code) {
-        let yes = put_byte(out, sign, b'?');
-        let part = second(codes, places, values, p);
-        let colon = put_part(codes, places, values, part, out, yes);
-        return put_byte(out, colon, b':');
+    if code < node::VALUE_OP {
+        let yes = put_byte(out, at, b'?');
+        let colon = put_number(out, yes, values[p]);
+        let no = put_byte(out, colon, b':');
+        let close = put_number(out, no, field(places, p, 0) as u64);
+        return put_byte(out, close, b')');
     }
-    put_sign(out, sign, code % 16)
+    if code < node::OP {
+        return put_value(out, at, code % 16, values[p]);
+    }
+    put_byte(out, at, b')')
 }
 
-// Puts the text of the tree at a place.
+// Puts what stands before it.
+fn put_head<'a>(
+    codes: &'a [u8; 512],
+    places: &'a [u16; 1024],
+    values: &'a [u64; 512],
+    p: usize,
+    out: &mut [u8; 512],
+    at: usize,
+) -> usize
+    requires sound { ⌜ Sound (pool (now codes) (now places) (now values)) p ⌝ }
+    requires above { ⌜ 47 < getD (now codes) p 0 ⌝ }
+    requires room { ⌜ at ≤ 513 ⌝ }
+    ensures { λ r. ⌜ PutsHead (pool (now (codes .entry)) (now (places .entry)) (now (values .entry))) p at (now (out .entry)) (now (out .exit)) r ⌝ }
+{
+    let code = codes[p];
+    let first = put_byte(out, at, b'(');
+    if code == node::NOT {
+        return put_byte(out, first, b'!');
+    }
+    if code < node::OP {
+        return first;
+    }
+    let sign = put_node(codes, places, values, place(places, p, 0), out, first);
+    if code < node::CHOICE {
+        return put_sign(out, sign, code % 16);
+    }
+    let yes = put_byte(out, sign, b'?');
+    if code < node::TERNARY {
+        let colon = put_number(out, yes, values[p]);
+        return put_byte(out, colon, b':');
+    }
+    let colon = put_node(codes, places, values, place(places, p, 1), out, yes);
+    put_byte(out, colon, b':')
+}
+
+// Puts the text of the tree at a place: down to the leaf that its last operands end in, in a loop, and up again. Where each stands in its
+// parent's text is its parent's to know: after it comes a bracket, or also an operator.
+//
+// It takes a frame of the stack where a first or a second operand is put, as a rating does: 256 at most.
 fn put_node<'a>(
     codes: &'a [u8; 512],
     places: &'a [u16; 1024],
@@ -238,22 +235,23 @@ fn put_node<'a>(
     out: &mut [u8; 512],
     at: usize,
 ) -> usize
-    requires { ⌜ Sound (pool (now codes) (now places) (now values)) p ⌝ }
-    ensures { λ r. ⌜ PutsTree (treeOf (pool (now (codes .entry)) (now (places .entry)) (now (values .entry))) p)
-        at (now (out .entry)) (now (out .exit)) r ⌝ }
+    requires sound { ⌜ Sound (pool (now codes) (now places) (now values)) p ⌝ }
+    requires room { ⌜ at ≤ 513 ⌝ }
+    ensures { λ r. ⌜ PutsTree (treeOf (pool (now (codes .entry)) (now (places .entry)) (now (values .entry))) p) at (now (out .entry)) (now (out .exit)) r ⌝ }
 {
-    let code = codes[p];
-    if code == node::N {
-        return put_byte(out, at, b'n');
+    let base = base(codes, p, CODES);
+    let mut q = p;
+    let mut end = at;
+    while base < q {
+        end = put_head(codes, places, values, q, out, end);
+        q -= 1;
     }
-    if code == node::INTEGER {
-        return put_number(out, at, values[p]);
+    end = put_leaf(codes, places, values, q, out, end);
+    while q < p {
+        q += 1;
+        end = put_tail(codes, places, values, q, out, end);
     }
-    let lead = put_byte(out, at, b'(');
-    let end = put_lead(codes, places, values, p, out, lead);
-    let part = last(codes, places, values, p);
-    let close = put_part(codes, places, values, part, out, end);
-    put_byte(out, close, b')')
+    end
 }
 
 // The smaller of two lengths.

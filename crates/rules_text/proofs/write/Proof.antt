@@ -1,6 +1,5 @@
 -- `rules_text::write` meets its contract: the tree test comes first, then the walk puts the text into an array of its own, and what is
 -- whole there and has room in the buffer is copied.
-use Prim.Native.Nat.{_≤_}
 use mathlib.Core.Path.{refl, sym, _∙_}
 use native.Mathlib.Omega.{arith}
 use lib.ListN.{length}
@@ -29,7 +28,7 @@ returns : tie.Need-returns
 returns c = let s : tie.Start = c .before .before .before in (no-tree (P s) (s .args .count) (s .args .root) (length (now (s .args .buffer))) (told (P s) (s .args .count) (s .args .root) (c .before .is-tree .ensures) (not-true _ (c .if1 .taken))), (refl, tt))
 
 put-node-requires : tie.Need-put-node-requires
-put-node-requires c κs = let s : tie.Start = c .before .before .before .before in sound (P s) (s .args .count) (s .args .root) (told (P s) (s .args .count) (s .args .root) (c .before .before .is-tree .ensures) (not-false _ (c .before .if1 .left)))
+put-node-requires c κs = let s : tie.Start = c .before .before .before .before in (sound (P s) (s .args .count) (s .args .root) (told (P s) (s .args .count) (s .args .root) (c .before .before .is-tree .ensures) (not-false _ (c .before .if1 .left))), omega arith)
 
 least-requires : tie.Need-least-requires
 least-requires c κs = search needs
