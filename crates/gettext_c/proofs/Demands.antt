@@ -301,9 +301,10 @@ module _ (o : Options) (f s : List ℕ) {Q : Pool} {r : Loaded} (loads : Loads (
       record { range = w; kept = kept (w .is) k (w .below) n count }
 
   -- Loaded with the demand that the rule fit the header's count: whatever the count, a plural lookup whose last entry with the key stores at least as
-  -- many segments as the header says answers one of those segments, with number 0.
+  -- many segments as the header says answers one of these first segments, with number 0.
   pub record OneOf (i start len : ℕ) (a : host-answer.Answer) : Type 0 where
     pub form : ℕ
+    pub below : form < r .forms
     pub among : form < length (segments s start len)
     pub is : IsSegment s i start len form a
 
@@ -314,4 +315,4 @@ module _ (o : Options) (f s : List ℕ) {Q : Pool} {r : Loaded} (loads : Loads (
       let k : r .forms ≡ g .count = loads .forms-are ∙ ap countBy (g .given) in
       let y : fitOf Q (nodesIn (r .head)) (rootIn (r .head)) (g .count) ≡ fit.Yes = fresh-fits o f s loads (g .count) ∙ ap fitting (sym (ap (fits (treeIn (load o f s))) (g .given)) ∙ facts-fit (treeIn (load o f s)) g) in
       let x = demand-3-fits (g .count) (fitsOf (fitOf Q (nodesIn (r .head)) (rootIn (r .head)) (g .count))) refl (ap (λ (z : Fit). fitsOf z .fits) y) n count .kept in
-      record { form = x .yields .form; among = omega (arith, x .yields .below); is = x .answers key i start len w (omega arith) }
+      record { form = x .yields .form; below = omega (arith, x .yields .below); among = omega (arith, x .yields .below); is = x .answers key i start len w (omega arith) }
