@@ -1,11 +1,12 @@
 /*
  * Calls the library on stacks of just the size that gettext_c.h states, with the deepest rules there are: 256 KiB for a load, 32 KiB for a load
  * with the rule n and for every other call. Below each stack lies a page that cannot be touched, so that a call which takes more ends the
- * program. Says how much of its stack each call took, at most.
+ * program, which says which it was. Says how much of its stack each call took, at most.
  */
 #define _GNU_SOURCE
 #include "gettext_c.h"
 
+#include <signal.h>
 #include <stdio.h>
 #include <stdlib.h>
 #include <sys/mman.h>
@@ -19,6 +20,34 @@ static void die(const char *what)
 {
     perror(what);
     exit(2);
+}
+
+/* The call under way, for the message of one that takes more than its stack. */
+static char under_way[160];
+
+static void overflow(int signal)
+{
+    (void)signal;
+    if (write(STDERR_FILENO, under_way, strlen(under_way)) < 0) {
+        _exit(3);
+    }
+    _exit(1);
+}
+
+static void watch(void)
+{
+    static uint8_t other[64 * 1024];
+    struct sigaction action;
+    stack_t stack;
+    memset(&action, 0, sizeof action);
+    memset(&stack, 0, sizeof stack);
+    action.sa_handler = overflow;
+    action.sa_flags = SA_ONSTACK;
+    stack.ss_sp = other;
+    stack.ss_size = sizeof other;
+    if (sigaltstack(&stack, NULL) != 0 || sigaction(SIGSEGV, &action, NULL) != 0) {
+        die("stack.c: a handler");
+    }
 }
 
 /* Memory of so many bytes, with a page below it that cannot be touched. */
@@ -54,10 +83,11 @@ static void call_on(uint8_t *top, void (*f)(void))
 }
 
 /* How many bytes of a stack a call of f takes. */
-static size_t taken(uint8_t *stack, size_t size, void (*f)(void))
+static size_t taken(uint8_t *stack, size_t size, void (*f)(void), const char *what, const char *rule)
 {
     size_t left = 0;
     memset(stack, PAINT, size);
+    snprintf(under_way, sizeof under_way, "stack.c: %s takes more than %zu bytes of stack: %s\n", what, size, rule);
     calls++;
     call_on(stack + size, f);
     while (left < size && stack[left] == PAINT) {
@@ -141,7 +171,7 @@ static void call_all(const char *name)
     for (size_t i = 0; i < ALL; i++) {
         for (size_t j = 0; j < sizeof counts / sizeof counts[0]; j++) {
             count = counts[j];
-            note(&most[i], deepest[i], taken(call_stack, CALL_STACK, all[i].run), name);
+            note(&most[i], deepest[i], taken(call_stack, CALL_STACK, all[i].run, all[i].name, name), name);
             if (all[i].run != cost && all[i].run != utf8 && number != GR_OK && number != GR_RULE_TOO_LONG && number != GR_ZERO_MODULUS) {
                 failed++;
                 printf("stack.c: %s of %s gives %u\n", all[i].name, name, (unsigned)number);
@@ -258,7 +288,7 @@ static void rules(void)
                 make_file(forced ? "n" : rule);
                 options.rule = forced ? rule : NULL;
                 options.reading = reading == 0 ? GR_SHIPPED : GR_STANDARD;
-                note(&most_load[reading], deepest_load[reading], taken(load_stack, LOAD_STACK, load), name);
+                note(&most_load[reading], deepest_load[reading], taken(load_stack, LOAD_STACK, load, "a load", name), name);
                 if (number != GR_OK && number != GR_PLURAL_PARSING) {
                     failed++;
                     printf("stack.c: loading %s gives %u\n", name, (unsigned)number);
@@ -280,7 +310,7 @@ static void rule_n(void)
             make_file("n");
             options.rule = forced ? "n" : NULL;
             options.reading = reading == 0 ? GR_SHIPPED : GR_STANDARD;
-            now = taken(call_stack, CALL_STACK, load);
+            now = taken(call_stack, CALL_STACK, load, "a load", "n");
             most_n[reading] = most_n[reading] < now ? now : most_n[reading];
             if (number != GR_OK) {
                 failed++;
@@ -396,6 +426,7 @@ static void altered_records(void)
 
 int main(void)
 {
+    watch();
     load_stack = guarded(LOAD_STACK);
     call_stack = guarded(CALL_STACK);
     rule_n();
