@@ -26,8 +26,8 @@
 extern "C" {
 #endif
 
-#define GR_VERSION "0.2.0"
-#define GR_VERSION_NUMBER 200 /* 10000 * major + 100 * minor + patch */
+#define GR_VERSION "0.3.0"
+#define GR_VERSION_NUMBER 300 /* 10000 * major + 100 * minor + patch */
 
 /* 1 to 8 and 13 come from a load and refuse the file; 10 to 12 come from a lookup, whose answer is then the caller's own text, 11 and 12 also from
  * building an index. 9 is not given. */
