@@ -76,7 +76,7 @@ counts-known {o} (headless c n e) = rw e (default-known (o .reading))
 module _ (o : Options) (f s : List ℕ) {Q : Pool} {r : Loaded} (loads : Loads (load o f s) Q r) (number-0 : r .number ≡ 0)
     {old new : List ℕ} {w : Written} (writes : Writes Q (r .head) old new w) (written : w .number ≡ 0) where
   loaded-known : Knows (o .reading) (treeIn (load o f s))
-  loaded-known = counts-known (accepted-exactly o f s _ _ .0 (was-accepted o f s loads number-0) .counts)
+  loaded-known = counts-known (accepted-exactly o f s _ _ _ .0 (was-accepted o f s loads number-0) .sound .counts)
 
   -- by the reading that it was loaded in
   pub loaded-again : (place : Where) → parsed place (o .reading) (take (w .len) new) ≡ rule (treeIn (load o f s))
