@@ -9,6 +9,9 @@
  *
  * Threads. The library has no state. Any calls may run at the same time.
  *
+ * Stack. 256 KiB are enough for any load, 32 KiB for every other call and for a load with the rule n, whatever the file, the rule and the record; of
+ * these, 236,928 and 28,208 bytes were taken at most on Arm, 220,664 and 28,144 on x86-64. stack.c makes the calls on stacks of just that size.
+ *
  * Input. Every value has an answer: any bytes as file, any record and any slots (altered, or of another file), any rule, any key and any
  * count. In the
  * gr_ functions a null text is the empty text, and a null file is one of no bytes. A record that is given by pointer is not null.

@@ -29,6 +29,11 @@
 //! # }
 //! ```
 //!
+//! # Stack
+//!
+//! A thread of 256 KiB is enough for any load, and 32 KiB for every other call and for a load with the rule `n`, whatever the file and the rule. Of these, an unoptimized build took 238,256 and
+//! 26,304 bytes at most on Arm; tests/stack.rs makes the calls on stacks of just that size.
+//!
 //! # What differs from gettext 0.4.0
 //!
 //! - UTF-8 is the only encoding. [`ParseOptions::force_utf8`] stands for `force_encoding`: it only passes over the charset label.
