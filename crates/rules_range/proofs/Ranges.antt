@@ -105,7 +105,7 @@ none-of l h e = rw (lt-leb l h e)
 pub ends-of : {l h r m : ℕ} → (r ≡ l) × (m ≡ h) → l ≤ h → fromTo r m ≡ Range l h
 ends-of {l} {h} (d, e) f = rw (d, e) (range-of l h f)
 
-pub none-by : {r m : ℕ} → (r ≡ 1) × (m ≡ 0) → fromTo r m ≡ Unrated
+none-by : {r m : ℕ} → (r ≡ 1) × (m ≡ 0) → fromTo r m ≡ Unrated
 none-by (d, e) = rw (d, e)
 
 -- that of !, and that of an integer
@@ -128,17 +128,17 @@ op-ordered op k h l m lo hi a b e =
 
 -- a binary operator on two ranges: the left is none, the right is, the operator has none, or it has one
 module _ (op : Op) (k h l m : ℕ) where
-  pub left-none : {z : Rating} → h < k → z ≡ Unrated → z ≡ binRange op (fromTo k h) (fromTo l m)
+  pub left-none : {i j : ℕ} → h < k → (i ≡ 1) × (j ≡ 0) → fromTo i j ≡ binRange op (fromTo k h) (fromTo l m)
   unfolding binRange
-  left-none a e = e ∙ rw (none-of k h a)
+  left-none a e = none-by e ∙ rw (none-of k h a)
 
-  pub right-none : {z : Rating} → k ≤ h → m < l → z ≡ Unrated → z ≡ binRange op (fromTo k h) (fromTo l m)
+  pub right-none : {i j : ℕ} → k ≤ h → m < l → (i ≡ 1) × (j ≡ 0) → fromTo i j ≡ binRange op (fromTo k h) (fromTo l m)
   unfolding binRange
-  right-none a b e = e ∙ rw (range-of k h a, none-of l m b)
+  right-none a b e = none-by e ∙ rw (range-of k h a, none-of l m b)
 
-  pub op-none : {r z : Rating} → k ≤ h → l ≤ m → r ≡ opRange op k h l m → r ≡ Unrated → z ≡ Unrated → z ≡ binRange op (fromTo k h) (fromTo l m)
+  pub op-none : {r : Rating} {i j : ℕ} → k ≤ h → l ≤ m → r ≡ opRange op k h l m → r ≡ Unrated → (i ≡ 1) × (j ≡ 0) → fromTo i j ≡ binRange op (fromTo k h) (fromTo l m)
   unfolding binRange
-  op-none a b d f e = e ∙ sym f ∙ d ∙ rw (range-of k h a, range-of l m b)
+  op-none a b d f e = none-by e ∙ sym f ∙ d ∙ rw (range-of k h a, range-of l m b)
 
   pub op-some : {r : Rating} {lo hi i j : ℕ} → k ≤ h → l ≤ m → r ≡ opRange op k h l m → r ≡ Range lo hi → (i ≡ lo) × (j ≡ hi)
       → fromTo i j ≡ binRange op (fromTo k h) (fromTo l m)
@@ -148,13 +148,13 @@ module _ (op : Op) (k h l m : ℕ) where
 
 -- ?: on two ranges, with a rated condition
 module _ (k h l m : ℕ) where
-  pub second-none : {z : Rating} → h < k → z ≡ Unrated → z ≡ condRange fullRange (fromTo k h) (fromTo l m)
+  pub second-none : {i j : ℕ} → h < k → (i ≡ 1) × (j ≡ 0) → fromTo i j ≡ condRange fullRange (fromTo k h) (fromTo l m)
   unfolding condRange
-  second-none a e = e ∙ rw (none-of k h a)
+  second-none a e = none-by e ∙ rw (none-of k h a)
 
-  pub third-none : {z : Rating} → k ≤ h → m < l → z ≡ Unrated → z ≡ condRange fullRange (fromTo k h) (fromTo l m)
+  pub third-none : {i j : ℕ} → k ≤ h → m < l → (i ≡ 1) × (j ≡ 0) → fromTo i j ≡ condRange fullRange (fromTo k h) (fromTo l m)
   unfolding condRange
-  third-none a b e = e ∙ rw (range-of k h a, none-of l m b)
+  third-none a b e = none-by e ∙ rw (range-of k h a, none-of l m b)
 
   pub both-arms : {i j : ℕ} → k ≤ h → l ≤ m → (i ≡ min k l) × (j ≡ max h m) → fromTo i j ≡ condRange fullRange (fromTo k h) (fromTo l m)
   unfolding condRange
@@ -233,9 +233,9 @@ module _ (P : Pool) (p : ℕ) where
           (e .is (k .op) (k .is))
 
       -- a condition that has none
-      pub rate-no-condition : 95 < code P p → (111 < code P p → field P p 1 < p) → {z : Rating} → x ≡ Unrated → z ≡ Unrated → z ≡ ra p
+      pub rate-no-condition : 95 < code P p → (111 < code P p → field P p 1 < p) → {m n : ℕ} → x ≡ Unrated → (m ≡ 1) × (n ≡ 0) → fromTo m n ≡ ra p
       unfolding rateTree condRange
-      rate-no-condition h s {z} e d = d ∙ go (ltb (code P p) 112) refl
+      rate-no-condition h s e d = none-by d ∙ go (ltb (code P p) 112) refl
         where
           u : Unrated ≡ ra (field P p 0)
           u = sym e ∙ i

@@ -101,19 +101,12 @@ fn ranged(op: u8, k: u64, h: u64, l: u64, m: u64) -> Rating
     Rating::Range(k / m, h / l)
 }
 
-// A range as two numbers: leaves the highest, and answers the lowest.
+// A range as two numbers: leaves the highest, and answers the lowest. There is none where the lowest is above the highest: 1 and 0.
 fn ends(low: u64, highest: u64, high: &mut u64) -> u64
     ensures { λ r. ⌜ (r ≡ low) × (now (high .exit) ≡ highest) ⌝ }
 {
     *high = highest;
     low
-}
-
-// The same where there is none: the lowest is above the highest.
-fn unrated(high: &mut u64) -> u64
-    ensures { λ r. ⌜ fromTo r (now (high .exit)) ≡ rating.Unrated ⌝ }
-{
-    ends(1, 0, high)
 }
 
 // The range of a binary operator on a left operand from k to h and a right one from l.
@@ -122,14 +115,14 @@ fn binary(op: u8, k: u64, h: u64, l: u64, high: &mut u64) -> u64
 {
     let m = *high;
     if h < k {
-        return unrated(high);
+        return ends(1, 0, high);
     }
     if m < l {
-        return unrated(high); // reached or not
+        return ends(1, 0, high); // reached or not
     }
     let range = ranged(op, k, h, l, m);
     let Rating::Range(low, highest) = range else {
-        return unrated(high);
+        return ends(1, 0, high);
     };
     ends(low, highest, high)
 }
@@ -140,10 +133,10 @@ fn either(k: u64, h: u64, l: u64, high: &mut u64) -> u64
 {
     let m = *high;
     if h < k {
-        return unrated(high);
+        return ends(1, 0, high);
     }
     if m < l {
-        return unrated(high);
+        return ends(1, 0, high);
     }
     ends(least(k, l), most(h, m), high)
 }
@@ -249,7 +242,7 @@ fn above<'a>(
         return binary(code % 16, first, h, low, high);
     }
     if h < first {
-        return unrated(high);
+        return ends(1, 0, high);
     }
     if code < node::TERNARY {
         let v = values[at];

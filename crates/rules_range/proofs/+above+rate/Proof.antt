@@ -25,7 +25,7 @@ use Rattle.rules_range.proofs.binary.Reads as binary-reads
 use Rattle.rules_range.proofs.either.Reads as either-reads
 use Rattle.rules_range.proofs.leaf.Reads as leaf-reads
 use Rattle.rules_range.proofs.one.Reads as one-reads
-use Rattle.rules_range.proofs.unrated.Reads as unrated-reads
+use Rattle.rules_range.proofs.ends.Reads as ends-reads
 use Rattle.rules_tree.proofs.base.Reads as base-reads
 use Rattle.rules_range.proofs.+above+rate.{statement}
 use Rattle.rules_range.proofs.+above+rate.Tie.{close}
@@ -49,7 +49,7 @@ abbrev rate-below : ℕ → In 2 rate-kinds.ps
 rate-below t = and 2 rate-kinds.ps (falls 2 rate-kinds.ps _<_ μ-rate t) rate.Pre
 
 abbrev R-above : ℕ → above-lts.Claims
-R-above t = (one-reads.Asked, one-reads.Learnt, place-reads.Asked, place-reads.Learnt, rate-below t, rate.Post, binary-reads.Asked, binary-reads.Learnt, unrated-reads.Asked, unrated-reads.Learnt, either-reads.Asked, either-reads.Learnt)
+R-above t = (one-reads.Asked, one-reads.Learnt, place-reads.Asked, place-reads.Learnt, rate-below t, rate.Post, binary-reads.Asked, binary-reads.Learnt, ends-reads.Asked, ends-reads.Learnt, either-reads.Asked, either-reads.Learnt)
 
 abbrev R-rate : ℕ → rate-lts.Claims
 R-rate t = (base-reads.Asked, base-reads.Learnt, leaf-reads.Asked, leaf-reads.Learnt, above-below t, above.Post)
@@ -81,11 +81,11 @@ above-binary-requires t c κs = search needs
 above-returns-2 : (t : ℕ) → above-lts.Need-returns-2 (R-above t) (above-at t) above.Post
 above-returns-2 t c = let s : Sa t = c .before .before .before .before .before .before .before .before in record { is = λ g. rate-two (P s) (s .args .at) (before-in (s .pre .1 .0) (s .pre .1 .1)) g (first-in (s .pre .1 .0) (c .before .before .before .before .before .before .if1 .left)) (moved (P s) (c .before .before .before .rate .ensures) (c .before .before .before .before .before .place .ensures)) (c .before .before .before .before .before .before .if1 .left) (c .before .before .if2 .taken) (op-high (s .pre .1 .0) (omega (arith, c .before .before .before .before .before .before .if1 .left)) (c .before .before .if2 .taken)) (c .binary .ensures) }
 
-above-unrated-requires : (t : ℕ) → above-lts.Need-unrated-requires (R-above t) (above-at t) above.Post
-above-unrated-requires t c κs = search needs
+above-ends-requires : (t : ℕ) → above-lts.Need-ends-requires (R-above t) (above-at t) above.Post
+above-ends-requires t c κs = search needs
 
 above-returns-3 : (t : ℕ) → above-lts.Need-returns-3 (R-above t) (above-at t) above.Post
-above-returns-3 t c = let s : Sa t = c .before .before .before .before .before .before .before .before .before in record { is = λ g. rate-no-condition (P s) (s .args .at) (before-in (s .pre .1 .0) (s .pre .1 .1)) g (first-in (s .pre .1 .0) (c .before .before .before .before .before .before .before .if1 .left)) (moved (P s) (c .before .before .before .before .rate .ensures) (c .before .before .before .before .before .before .place .ensures)) (c .before .before .before .if2 .left) (second-in (s .pre .1 .0)) (none-of _ _ (c .before .before .if3 .taken)) (c .unrated .ensures) }
+above-returns-3 t c = let s : Sa t = c .before .before .before .before .before .before .before .before .before in record { is = λ g. rate-no-condition (P s) (s .args .at) (before-in (s .pre .1 .0) (s .pre .1 .1)) g (first-in (s .pre .1 .0) (c .before .before .before .before .before .before .before .if1 .left)) (moved (P s) (c .before .before .before .before .rate .ensures) (c .before .before .before .before .before .before .place .ensures)) (c .before .before .before .if2 .left) (second-in (s .pre .1 .0)) (none-of _ _ (c .before .before .if3 .taken)) (c .ends .ensures) }
 
 above-mul-v : (t : ℕ) → above-lts.Need-mul-v (R-above t) (above-at t) above.Post
 above-mul-v t c = search needs
@@ -154,8 +154,8 @@ pub +above+rate-spec : {M : Type 1} → statement M
   rate.Post,
   binary-reads.Asked,
   binary-reads.Learnt,
-  unrated-reads.Asked,
-  unrated-reads.Learnt,
+  ends-reads.Asked,
+  ends-reads.Learnt,
   either-reads.Asked,
   either-reads.Learnt,
 )
@@ -168,7 +168,7 @@ pub +above+rate-spec : {M : Type 1} → statement M
     (above-rate-requires t)
     (above-binary-requires t)
     (above-returns-2 t)
-    (above-unrated-requires t)
+    (above-ends-requires t)
     (above-returns-3 t)
     (above-mul-v t)
     (above-element-copy-out-v t)

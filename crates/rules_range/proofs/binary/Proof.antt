@@ -8,19 +8,18 @@ use Rattle.rules_range.proofs.binary.Reads as reads
 use Rattle.rules_range.proofs.binary.Lts as lts
 use Rattle.rules_range.proofs.ends.Reads as ends-reads
 use Rattle.rules_range.proofs.ranged.Reads as ranged-reads
-use Rattle.rules_range.proofs.unrated.Reads as unrated-reads
 
-unrated-requires : tie.Need-unrated-requires
-unrated-requires c κs = search needs
+ends-requires : tie.Need-ends-requires
+ends-requires c κs = search needs
 
 returns : tie.Need-returns
-returns c = let s : tie.Start = c .before .before .before .before in record { is = λ op e. left-none op (s .args .k) (s .args .h) (s .args .l) (now (s .args .high)) (c .before .before .if1 .taken) (c .unrated .ensures) }
+returns c = let s : tie.Start = c .before .before .before .before in record { is = λ op e. left-none op (s .args .k) (s .args .h) (s .args .l) (now (s .args .high)) (c .before .before .if1 .taken) (c .ends .ensures) }
 
-unrated-requires-2 : tie.Need-unrated-requires-2
-unrated-requires-2 c κs = search needs
+ends-requires-2 : tie.Need-ends-requires-2
+ends-requires-2 c κs = search needs
 
 returns-2 : tie.Need-returns-2
-returns-2 c = let s : tie.Start = c .before .before .before .before .before in record { is = λ op e. right-none op (s .args .k) (s .args .h) (s .args .l) (now (s .args .high)) (c .before .before .before .if1 .left) (c .before .before .if2 .taken) (c .unrated2 .ensures) }
+returns-2 c = let s : tie.Start = c .before .before .before .before .before in record { is = λ op e. right-none op (s .args .k) (s .args .h) (s .args .l) (now (s .args .high)) (c .before .before .before .if1 .left) (c .before .before .if2 .taken) (c .ends2 .ensures) }
 
 ranged-requires : tie.Need-ranged-requires
 ranged-requires c κs = search needs
@@ -31,30 +30,30 @@ enum-known-range c = search needs
 enum-told : tie.Need-enum-told
 enum-told c = search needs
 
-unrated-requires-3 : tie.Need-unrated-requires-3
-unrated-requires-3 c κs = search needs
+ends-requires-3 : tie.Need-ends-requires-3
+ends-requires-3 c κs = search needs
 
 returns-3 : tie.Need-returns-3
-returns-3 c = let s : tie.Start = c .before .before .before .before .before .before .before .before in record { is = λ op e. op-none op (s .args .k) (s .args .h) (s .args .l) (now (s .args .high)) (c .before .before .before .before .before .before .if1 .left) (c .before .before .before .before .before .if2 .left) (c .before .before .before .before .ranged .ensures .is op e) (c .before .before .enum-told .given .1) (c .unrated3 .ensures) }
+returns-3 c = let s : tie.Start = c .before .before .before .before .before .before .before .before in record { is = λ op e. op-none op (s .args .k) (s .args .h) (s .args .l) (now (s .args .high)) (c .before .before .before .before .before .before .if1 .left) (c .before .before .before .before .before .if2 .left) (c .before .before .before .before .ranged .ensures .is op e) (c .before .before .enum-told .given .1) (c .ends3 .ensures) }
 
-ends-requires : tie.Need-ends-requires
-ends-requires c κs = search needs
+ends-requires-4 : tie.Need-ends-requires-4
+ends-requires-4 c κs = search needs
 
 returns-4 : tie.Need-returns-4
-returns-4 c = let s : tie.Start = c .before .before .before .before .before .before .before .before .before in record { is = λ op e. op-some op (s .args .k) (s .args .h) (s .args .l) (now (s .args .high)) (c .before .before .before .before .before .before .before .if1 .left) (c .before .before .before .before .before .before .if2 .left) (c .before .before .before .before .before .ranged .ensures .is op e) (c .before .before .before .range .given .1) (c .ends .ensures) }
+returns-4 c = let s : tie.Start = c .before .before .before .before .before .before .before .before .before in record { is = λ op e. op-some op (s .args .k) (s .args .h) (s .args .l) (now (s .args .high)) (c .before .before .before .before .before .before .before .if1 .left) (c .before .before .before .before .before .before .if2 .left) (c .before .before .before .before .before .ranged .ensures .is op e) (c .before .before .before .range .given .1) (c .ends4 .ensures) }
 
 pub binary-spec : {M : Type 1} → statement M
 binary-spec =
     tie.close
     (tie.spec
-    unrated-requires
+    ends-requires
     returns
-    unrated-requires-2
+    ends-requires-2
     returns-2
     ranged-requires
     enum-known-range
     enum-told
-    unrated-requires-3
+    ends-requires-3
     returns-3
-    ends-requires
+    ends-requires-4
     returns-4)

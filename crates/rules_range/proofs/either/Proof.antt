@@ -10,19 +10,18 @@ use Rattle.rules_range.proofs.either.Lts as lts
 use Rattle.rules_range.proofs.ends.Reads as ends-reads
 use Rattle.rules_range.proofs.least.Reads as least-reads
 use Rattle.rules_range.proofs.most.Reads as most-reads
-use Rattle.rules_range.proofs.unrated.Reads as unrated-reads
 
-unrated-requires : tie.Need-unrated-requires
-unrated-requires c κs = search needs
+ends-requires : tie.Need-ends-requires
+ends-requires c κs = search needs
 
 returns : tie.Need-returns
-returns c = let s : tie.Start = c .before .before .before .before in second-none (s .args .k) (s .args .h) (s .args .l) (now (s .args .high)) (c .before .before .if1 .taken) (c .unrated .ensures)
+returns c = let s : tie.Start = c .before .before .before .before in second-none (s .args .k) (s .args .h) (s .args .l) (now (s .args .high)) (c .before .before .if1 .taken) (c .ends .ensures)
 
-unrated-requires-2 : tie.Need-unrated-requires-2
-unrated-requires-2 c κs = search needs
+ends-requires-2 : tie.Need-ends-requires-2
+ends-requires-2 c κs = search needs
 
 returns-2 : tie.Need-returns-2
-returns-2 c = let s : tie.Start = c .before .before .before .before .before in third-none (s .args .k) (s .args .h) (s .args .l) (now (s .args .high)) (c .before .before .before .if1 .left) (c .before .before .if2 .taken) (c .unrated2 .ensures)
+returns-2 c = let s : tie.Start = c .before .before .before .before .before in third-none (s .args .k) (s .args .h) (s .args .l) (now (s .args .high)) (c .before .before .before .if1 .left) (c .before .before .if2 .taken) (c .ends2 .ensures)
 
 least-requires : tie.Need-least-requires
 least-requires c κs = search needs
@@ -30,21 +29,21 @@ least-requires c κs = search needs
 most-requires : tie.Need-most-requires
 most-requires c κs = search needs
 
-ends-requires : tie.Need-ends-requires
-ends-requires c κs = search needs
+ends-requires-3 : tie.Need-ends-requires-3
+ends-requires-3 c κs = search needs
 
 returns-3 : tie.Need-returns-3
-returns-3 c = let s : tie.Start = c .before .before .before .before .before .before .before in both-arms (s .args .k) (s .args .h) (s .args .l) (now (s .args .high)) (c .before .before .before .before .before .if1 .left) (c .before .before .before .before .if2 .left) (c .ends .ensures .0 ∙ c .before .before .before .least .ensures, c .ends .ensures .1 ∙ c .before .before .most .ensures)
+returns-3 c = let s : tie.Start = c .before .before .before .before .before .before .before in both-arms (s .args .k) (s .args .h) (s .args .l) (now (s .args .high)) (c .before .before .before .before .before .if1 .left) (c .before .before .before .before .if2 .left) (c .ends3 .ensures .0 ∙ c .before .before .before .least .ensures, c .ends3 .ensures .1 ∙ c .before .before .most .ensures)
 
 pub either-spec : {M : Type 1} → statement M
 either-spec =
     tie.close
     (tie.spec
-    unrated-requires
+    ends-requires
     returns
-    unrated-requires-2
+    ends-requires-2
     returns-2
     least-requires
     most-requires
-    ends-requires
+    ends-requires-3
     returns-3)
