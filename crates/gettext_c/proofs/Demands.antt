@@ -25,7 +25,7 @@ use Rattle.rules.specs.Tree.{Tree, defaultTree}
 use Rattle.rules.specs.Value.{evalTree, truth}
 use Rattle.rules.specs.Range.{rateTree}
 use Rattle.rules.specs.Pool.{Pool}
-use Rattle.rules.specs.Pack.{packed}
+use Rattle.rules.specs.Pack.{packed, packedSize}
 use Rattle.rules.specs.Answer.{formOf, fitting, resolvedOf, ratedOf, fitOf}
 use Rattle.rules.specs.declared.Value.{Value}
 use Rattle.rules.specs.declared.Value.the-variants as value
@@ -42,14 +42,18 @@ use Rattle.reading_rule.specs.declared.Reading.the-variants.{Standard}
 use Rattle.reading_rule.proofs.Meaning.{IsRule, standard-exactly}
 use Rattle.header_forms.specs.declared.Forms.{Forms}
 use Rattle.header_forms.specs.declared.Forms.the-variants.{Given, Absent}
-use Rattle.container_layout.specs.Mo.{segments}
+use Rattle.container_layout.specs.Mo.{segment, segments}
+use Rattle.container_layout.specs.declared.Stretch.{Stretch}
+use Rattle.container_layout.specs.declared.Stretch.the-variants as stretch
 use Rattle.container_layout.specs.declared.Tables.{Tables}
 use Rattle.lookup_scan.specs.Keys.{lastWith}
+use Rattle.lookup_scan.specs.declared.Hit.the-variants as hit
 use Rattle.lookup_scan.proofs.Last.{Last, last-hit}
-use Rattle.lookup.specs.Lookup.{plural, number}
+use Rattle.lookup.specs.Lookup.{bySegment, byEntry, plural, number}
 use Rattle.lookup.specs.declared.Reason.{Reason}
 use Rattle.lookup.specs.declared.Reason.the-variants as reason
 use Rattle.lookup.proofs.Rated.{Names, rated-lookup}
+use Rattle.lookup.proofs.Reasons.{by-rule}
 use Rattle.lookup.proofs.Indexed.{never-12}
 use Rattle.container.specs.Catalog.{Answer, accepted, refused, noTables, load, fits, treeIn}
 use Rattle.container.specs.Catalog as answer
@@ -59,7 +63,7 @@ use Rattle.container.specs.declared.Options.{Options}
 use Rattle.container.proofs.Exactly.{accepted-exactly, facts-fit, refused-exactly}
 use Rattle.container.specs.Before as before
 use Rattle.container.proofs.Before.{numberIn, same-number}
-use Rattle.host.specs.Host.{sideOfLoad, enteredBy, entryOfLoad, countedBy, countBy, formsIn, tablesIn, nodesIn, rootIn, ownFor, answerOf, ratingOf, fitsOf}
+use Rattle.host.specs.Host.{sideOfLoad, enteredBy, entryOfLoad, countedBy, countBy, formsIn, headOf, tablesIn, nodesIn, rootIn, ownFor, answerOf, ratingOf, fitsOf, valueOf}
 use Rattle.host.specs.declared.Loaded.{Loaded}
 use Rattle.host.specs.declared.Answer as host-answer
 use Rattle.host.specs.declared.Rating.{Rating}
@@ -91,7 +95,8 @@ use Rattle.gettext_c.proofs.gettext_c_text.Kinds as text-kinds
 use Rattle.gettext_c.proofs.gettext_c_why_ngettext.Reads as why-ngettext
 use Rattle.gettext_c.proofs.gettext_c_why_ngettext.Kinds as why-ngettext-kinds
 
--- 1. No input stops the host. No function asks anything of its caller: `Pre` is what it requires, as the check reads it from the source.
+-- 1. No input stops the host. No function asks anything of its caller: `Pre` is what it requires, as the check reads it from the source (those
+-- that take slots: `nothing-asked-indexed`).
 -- That it ends, and touches nothing outside what is lent to it, is what the check proves of every function.
 abbrev pub AsksNothing : (n : ℕ) (ps : List (PK n)) → In n ps → Type 0
 AsksNothing n ps Pre = (κs : Lfts n) (a : Dens κs ps) → Pre κs a
@@ -102,12 +107,18 @@ pub nothing-asked : AsksNothing 3 empty-kinds.ps empty.Pre × AsksNothing 4 load
     × AsksNothing 1 why-ngettext-kinds.ps why-ngettext.Pre
 nothing-asked = (λ κs a. tt, λ κs a. tt, λ κs a. tt, λ κs a. tt, λ κs a. tt, λ κs a. tt, λ κs a. tt, λ κs a. tt, λ κs a. tt, λ κs a. tt, λ κs a. tt, λ κs a. tt)
 
--- a refused load gives the empty catalog, without a count
-refused-empty : (a : Answer) {Q : Pool} {r : Loaded} → Loads a Q r → (r .number ≡ 0 → ⊥) → (tablesIn (r .head) ≡ noTables) × (Q ≡ packed defaultTree) × (r .counted ≡ 0)
-refused-empty (accepted t u x) h n = absurd (n (h .number-is))
-refused-empty (refused e) h n = (h .tables-are, h .rule-is, h .counted-is)
+-- a refused load gives the empty catalog: its head to the last number, its rule, and no count
+pub record EmptyLeft (Q : Pool) (r : Loaded) : Type 0 where
+  pub head : r .head ≡ headOf noTables (packedSize defaultTree)
+  pub tables : tablesIn (r .head) ≡ noTables
+  pub rule : Q ≡ packed defaultTree
+  pub uncounted : (r .counted ≡ 0) × (r .forms ≡ 0)
 
-pub refused-load : (o : Options) (f s : List ℕ) {Q : Pool} {r : Loaded} → Loads (load o f s) Q r → (r .number ≡ 0 → ⊥) → (tablesIn (r .head) ≡ noTables) × (Q ≡ packed defaultTree) × (r .counted ≡ 0)
+refused-empty : (a : Answer) {Q : Pool} {r : Loaded} → Loads a Q r → (r .number ≡ 0 → ⊥) → EmptyLeft Q r
+refused-empty (accepted t u x) h n = absurd (n (h .number-is))
+refused-empty (refused e) h n = record { head = h .head-is; tables = h .tables-are; rule = h .rule-is; uncounted = (h .counted-is, h .forms-are) }
+
+pub refused-load : (o : Options) (f s : List ℕ) {Q : Pool} {r : Loaded} → Loads (load o f s) Q r → (r .number ≡ 0 → ⊥) → EmptyLeft Q r
 refused-load o f s h n = refused-empty (load o f s) h n
 
 -- a refused lookup gives the caller's own id or plural id, with 10 or 11
@@ -146,6 +157,7 @@ pub record IsCatalog (o : Options) (f s : List ℕ) (Q : Pool) (r : Loaded) : Ty
   pub tree : Tree
   pub facts : Accepts o f s (tablesIn (r .head)) tree (formsIn (r .counted) (r .forms))
   pub stored : Q ≡ packed tree
+  pub head : r .head ≡ headOf (tablesIn (r .head)) (packedSize tree)
 
 -- and the number and the place of a refusal exactly if they are those of the first test that fails, at the lowest index
 pub record Tells (x : Refusal) (r : Loaded) : Type 0 where
@@ -174,14 +186,16 @@ module _ (o : Options) (f s : List ℕ) {Q : Pool} {r : Loaded} (loads : Loads (
         tree = treeIn (load o f s);
         facts = rw told-forms (accepted-exactly o f s _ _ _ .0 (was-accepted o f s loads e));
         stored = loads .rule-is;
+        head = loads .head-is ∙ ap (λ (t : Tables). headOf t (packedSize (treeIn (load o f s)))) (sym (loads .tables-are));
       }
 
   pub demand-2-accepted : (t : Tables) (u : Tree) (n : Forms) → Accepts o f s t u n
-      → (r .number ≡ 0) × (tablesIn (r .head) ≡ t) × (Q ≡ packed u) × (formsIn (r .counted) (r .forms) ≡ n)
+      → (r .number ≡ 0) × (tablesIn (r .head) ≡ t) × (r .head ≡ headOf t (packedSize u)) × (Q ≡ packed u) × (formsIn (r .counted) (r .forms) ≡ n)
   demand-2-accepted t u n w =
       let e = accepted-exactly o f s t u n .1 w in (
         loads .number-is ∙ ap (λ (a : Answer). outcomeNumber (outcomeOf a)) e,
         loads .tables-are ∙ ap (λ (a : Answer). answer.tablesIn a) e,
+        loads .head-is ∙ ap (λ (a : Answer). headOf (answer.tablesIn a) (packedSize (treeIn a))) e,
         loads .rule-is ∙ ap (λ (a : Answer). packed (treeIn a)) e,
         told-forms ∙ ap answer.formsIn e,
       )
@@ -213,8 +227,7 @@ module _ (o : Options) (f s : List ℕ) {Q : Pool} {r : Loaded} (loads : Loads (
 pub demand-2-rule : (w : Where) (f : List ℕ) (t : Tree) → (parsed w Standard f ≡ rule t) ↔ IsRule (trim whiteSpace f) t
 demand-2-rule w f t = standard-exactly w f t
 
--- 3. The rule that was loaded, at a count: it takes no remainder by zero, and yields a form from lo to hi, so below k; that is what the
--- function `gettext_c_resolve` tells.
+-- 3. The rule that was loaded, at a count: it takes no remainder by zero, and yields a form from lo to hi, so below k.
 pub record Yields (t : Tree) (lo hi k n : ℕ) : Type 0 where
   pub form : ℕ
   pub value : evalTree t n ≡ value.Is form
@@ -222,12 +235,13 @@ pub record Yields (t : Tree) (lo hi k n : ℕ) : Type 0 where
   pub high : form ≤ hi
   pub below : form < k
 
--- An answer is the segment of entry i that a form names, where it lies in the file.
+-- An answer is the segment of entry i that a form names: the place in the file where that entry's translation has it, and its bytes.
 pub record IsSegment (s : List ℕ) (i start len form : ℕ) (a : host-answer.Answer) : Type 0 where
   pub number-0 : a .number ≡ 0
   pub which-0 : a .which ≡ 0
   pub entry-is : a .entry ≡ i
   pub form-is : a .form ≡ form
+  pub place : segment s start len form ≡ stretch.At (a .start) (a .len)
   pub inside : a .start + a .len ≤ length s
   pub bytes : take (a .len) (drop (a .start) s) ≡ getD (segments s start len) form []
 
@@ -248,10 +262,11 @@ fits-1 fit.NoTree e = absurd (omega arith)
 
 -- an accepted load, and the record unaltered
 module _ (o : Options) (f s : List ℕ) {Q : Pool} {r : Loaded} (loads : Loads (load o f s) Q r) (number-0 : r .number ≡ 0) where
-  -- For a rule rated lo to hi and a k above hi, at a count: what the rule yields; and every plural lookup in the very bytes that were loaded,
+  -- For a rule rated lo to hi and a k above hi, at a count: what the rule yields, as `gettext_c_resolve` tells it; and every plural lookup in the very bytes that were loaded,
   -- whose last entry with the key stores at least k segments, answers the segment that this form names.
   pub record Kept (lo hi k n : ℕ) : Type 0 where
     pub yields : Yields (treeIn (load o f s)) lo hi k n
+    pub told : valueOf (resolvedOf Q (nodesIn (r .head)) (rootIn (r .head)) n) ≡ record { number = 0; form = yields .form }
     pub answers : (key : List ℕ) (i start len : ℕ) → Last s (tablesIn (r .head)) key (tablesIn (r .head) .count) i start len → k ≤ length (segments s start len)
         → IsSegment s i start len (yields .form) (answerOf (ownFor n) (counted s (r .head) Q key n))
 
@@ -269,19 +284,36 @@ module _ (o : Options) (f s : List ℕ) {Q : Pool} {r : Loaded} (loads : Loads (
           high = v .high;
           below = omega (arith, v .high);
         };
+        told = ap valueOf (v .is);
         answers = λ key i start len w m.
             let a = rated-lookup s (tablesIn (r .head)) Q (nodesIn (r .head)) (rootIn (r .head)) key lo hi k n is below count (fresh-length o f s loads number-0)
             (last-hit s (tablesIn (r .head)) key w) m in
-            named (v .is) a;
+            named (v .is) a (placed key (v .is) (last-hit s (tablesIn (r .head)) key w) a);
       }
     where
       same-form : {x y : ℕ} {u : Resolved} → u ≡ resolved.Form x → u ≡ resolved.Form y → y ≡ x
       same-form e g = cc
 
-      named : {i start len x : ℕ} {u : Resolved} {a : Reason} → u ≡ resolved.Form x → Names s u i start len lo hi a → IsSegment s i start len x (answerOf (ownFor n) a)
-      named {i} {start} {len} {x} e a =
+      -- the place is that of the entry's own translation
+      by-stretch : {i form at size : ℕ} (y : Stretch) → bySegment i form y ≡ reason.Answered i form at size → y ≡ stretch.At at size
+      by-stretch (stretch.At b m) e = cc
+      by-stretch stretch.Outside e = let z : _≡_ {A = ℕ} 0 1 = cc in absurd (omega arith)
+
+      placed : (key : List ℕ) {i start len x : ℕ} → resolvedOf Q (nodesIn (r .head)) (rootIn (r .head)) n ≡ resolved.Form x → lastWith s (tablesIn (r .head)) key ≡ hit.At i start len
+          → (a : Names s (resolvedOf Q (nodesIn (r .head)) (rootIn (r .head)) n) i start len lo hi (counted s (r .head) Q key n)) → segment s start len x ≡ stretch.At (a .at) (a .size)
+      placed key {i} {start} {len} {x} e g a =
           let q : a .form ≡ x = same-form e (a .value) in
-          rw (a .is, ← q) (record { number-0 = refl; which-0 = refl; entry-is = refl; form-is = refl; inside = a .inside; bytes = a .text })
+          let y : byEntry s x (lastWith s (tablesIn (r .head)) key) ≡ counted s (r .head) Q key n =
+          by-rule s (tablesIn (r .head)) (resolvedOf Q (nodesIn (r .head)) (rootIn (r .head)) n) (lastWith s (tablesIn (r .head)) key) (fresh-length o f s loads number-0) refl e refl in
+          by-stretch (segment s start len x) (sym (ap (byEntry s x) g) ∙ y ∙ a .is ∙ ap (λ (m : ℕ). reason.Answered i m (a .at) (a .size)) q)
+
+      named : {i start len x : ℕ} {u : Resolved} {c : Reason} → u ≡ resolved.Form x → (a : Names s u i start len lo hi c) → segment s start len x ≡ stretch.At (a .at) (a .size)
+          → IsSegment s i start len x (answerOf (ownFor n) c)
+      named {i} {start} {len} {x} {c = c} e a p =
+          let q : a .form ≡ x = same-form e (a .value) in
+          let z : c ≡ reason.Answered i x (a .at) (a .size) = a .is ∙ ap (λ (m : ℕ). reason.Answered i m (a .at) (a .size)) q in
+          let t : take (a .size) (drop (a .at) s) ≡ getD (segments s start len) x [] = a .text ∙ ap (λ (m : ℕ). getD (segments s start len) m []) q in
+          rw z (record { number-0 = refl; which-0 = refl; entry-is = refl; form-is = refl; place = p; inside = a .inside; bytes = t })
 
   -- by the rating: `rated` is 1 and the highest is below k
   pub demand-3 : (q : Rating) → q ≡ ratingOf range → q .rated ≡ 1 → (k : ℕ) → q .highest < k → (n : ℕ) → n < 2 ^ 64 → Kept (q .lowest) (q .highest) k n
@@ -301,18 +333,19 @@ module _ (o : Options) (f s : List ℕ) {Q : Pool} {r : Loaded} (loads : Loads (
       record { range = w; kept = kept (w .is) k (w .below) n count }
 
   -- Loaded with the demand that the rule fit the header's count: whatever the count, a plural lookup whose last entry with the key stores at least as
-  -- many segments as the header says answers one of these first segments, with number 0.
-  pub record OneOf (i start len : ℕ) (a : host-answer.Answer) : Type 0 where
+  -- many segments as the header says answers one of these first segments, with number 0: the one that the rule's value names.
+  pub record OneOf (n i start len : ℕ) (a : host-answer.Answer) : Type 0 where
     pub form : ℕ
+    pub value : evalTree (treeIn (load o f s)) n ≡ value.Is form
     pub below : form < r .forms
     pub among : form < length (segments s start len)
     pub is : IsSegment s i start len form a
 
   pub fit-answers : o .fit ≡ true → (n : ℕ) → n < 2 ^ 64 → (key : List ℕ) (i start len : ℕ) → Last s (tablesIn (r .head)) key (tablesIn (r .head) .count) i start len
-      → r .forms ≤ length (segments s start len) → OneOf i start len (answerOf (ownFor n) (counted s (r .head) Q key n))
+      → r .forms ≤ length (segments s start len) → OneOf n i start len (answerOf (ownFor n) (counted s (r .head) Q key n))
   fit-answers on n count key i start len w stored =
       let g = accepted-exactly o f s _ _ _ .0 (was-accepted o f s loads number-0) .fitting on in
       let k : r .forms ≡ g .count = loads .forms-are ∙ ap countBy (g .given) in
       let y : fitOf Q (nodesIn (r .head)) (rootIn (r .head)) (g .count) ≡ fit.Yes = fresh-fits o f s loads (g .count) ∙ ap fitting (sym (ap (fits (treeIn (load o f s))) (g .given)) ∙ facts-fit (treeIn (load o f s)) g) in
       let x = demand-3-fits (g .count) (fitsOf (fitOf Q (nodesIn (r .head)) (rootIn (r .head)) (g .count))) refl (ap (λ (z : Fit). fitsOf z .fits) y) n count .kept in
-      record { form = x .yields .form; below = omega (arith, x .yields .below); among = omega (arith, x .yields .below); is = x .answers key i start len w (omega arith) }
+      record { form = x .yields .form; value = x .yields .value; below = omega (arith, x .yields .below); among = omega (arith, x .yields .below); is = x .answers key i start len w (omega arith) }

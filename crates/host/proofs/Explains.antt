@@ -11,7 +11,7 @@ use Rattle.host.specs.Host.{answerOf}
 use Rattle.host.specs.declared.Explained.{Explained}
 use Rattle.host.specs.Explained.{leftOwn, explainedOf, answerIn}
 
-pub answer-in : (own : ℕ) (w : Why) → answerIn (explainedOf own w) ≡ answerOf own (reasonOf w)
+pub answer-in : (own : ℕ) (w : Why) → answerIn own (explainedOf own w) ≡ answerOf own (reasonOf w)
 answer-in own StaleLength = refl
 answer-in own NoTree = refl
 answer-in own (ZeroDivisor node) = refl

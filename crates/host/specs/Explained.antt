@@ -1,7 +1,9 @@
 -- Why a lookup with a count answers as it does, as numbers; and the lookup's answer, which is a function of them. SPEC 9.7.
 use Prim.Native.Nat.{ℕ}
 use mathlib.Core.Bool.{true, false}
-use lib.Dec.{eqb}
+use lib.Dec.{ltb, eqb}
+use Rattle.refusal.specs.Numbers.{numberOf}
+use Rattle.refusal.specs.declared.Error.the-variants as error
 use Rattle.lookup.specs.Lookup.{number}
 use Rattle.lookup_why.specs.Why.{reasonOf}
 use Rattle.lookup_why.specs.declared.Why.{Why}
@@ -24,10 +26,14 @@ explainedOf own (TooFewSegments i k form) = leftOwn 5 (number (reasonOf (TooFewS
 explainedOf own (Answered i form start len) =
     record { kind = 6; number = 0; which = 0; node = 0; entry = i; stored = 0; form = form; start = start; len = len }
 
--- the answer that a reason tells: where it is an answer its segment, else the caller's own text
-abbrev pub answerIn : Explained → Answer
-answerIn e =
+-- the number that a kind of reason gives: 1 and 2 are a bad record, 3 is a zero divisor
+abbrev pub numberBy : ℕ → ℕ
+numberBy kind = elim (ltb kind 3) [ true ↦ numberOf error.BadRecord | false ↦ elim (eqb kind 3) [ true ↦ numberOf error.ZeroModulus | false ↦ 0 ] ]
+
+-- the answer that a reason tells, by its kind: where it is an answer its segment, else the caller's own text
+abbrev pub answerIn : ℕ → Explained → Answer
+answerIn own e =
     elim (eqb (e .kind) 6) [
-      | true ↦ record { number = e .number; which = e .which; entry = e .entry; form = e .form; start = e .start; len = e .len }
-      | false ↦ fallback (e .number) (e .which)
+      | true ↦ record { number = 0; which = 0; entry = e .entry; form = e .form; start = e .start; len = e .len }
+      | false ↦ fallback (numberBy (e .kind)) own
     ]
