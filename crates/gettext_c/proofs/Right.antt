@@ -1,7 +1,7 @@
 -- What a host may rely on when it takes a segment from the file. `answer-inside`: for any record and any file, the segment that a lookup
 -- names lies in the file. `answer-right`: with the record that the load of that very file returned, it is UTF-8. `empty-absent`: the
 -- empty record has none. `plural-inside` and so on say the same of a lookup with a count, and `slots-inside` and so on of one in any lent
--- slots. All are over the answer as the host gets it; that the eight lookups return it is in their contracts. Assumes nothing.
+-- slots. All are over the answer as the host gets it; that the four lookups return it is in their contracts. Assumes nothing.
 use Prim.Native.Nat.{ℕ, zero, suc, _+_, _<_, _≤_}
 use mathlib.Core.Path.{_≡_, refl, sym, ap, _∙_}
 use mathlib.Core.Bool.{true}
