@@ -1,7 +1,9 @@
-//! The catalogs that are measured: real ones, and generated ones of a given size.
+//! The catalogs that are measured: real ones, generated ones of a given size, and ones of that size with the messages of real ones.
+use std::collections::BTreeMap;
 use std::fs;
 use std::path::Path;
 
+#[derive(Clone)]
 pub struct Message {
     pub id: String,
     pub translation: String,
@@ -44,6 +46,23 @@ pub fn strings(file: &[u8], ids: bool) -> Vec<&[u8]> {
         .collect()
 }
 
+/// The messages of the catalogs in a language's folder below the folders, each id once. Those with a plural id or a context are left out.
+pub fn messages(folders: &[String], language: &str) -> Vec<Message> {
+    let mut files = Vec::new();
+    folders.iter().for_each(|f| walk(&Path::new(f).join(language), &mut files));
+    let mut all = BTreeMap::new();
+    for file in &files {
+        for (id, translation) in strings(file, true).into_iter().zip(strings(file, false)) {
+            if let (Ok(id), Ok(translation)) = (std::str::from_utf8(id), std::str::from_utf8(translation)) {
+                if !id.is_empty() && !id.contains(['\0', '\u{4}']) {
+                    all.entry(id).or_insert(translation);
+                }
+            }
+        }
+    }
+    all.into_iter().map(|(id, translation)| Message { id: id.into(), translation: translation.into() }).collect()
+}
+
 fn put(file: &mut [u8], at: usize, value: usize) {
     file[at..at + 4].copy_from_slice(&(value as u32).to_le_bytes());
 }
@@ -66,13 +85,8 @@ fn sentence(i: usize) -> String {
     format!("{} {i}", words.join(" "))
 }
 
-/// A catalog of n messages and a header with the rule; every message has three forms.
+/// A catalog of n generated messages and a header with the rule; every message has three forms.
 pub fn generated(n: usize, rule: &str) -> (Vec<Message>, Vec<u8>) {
-    in_context("", n, rule)
-}
-
-/// The same, each message in a context, with its byte 4.
-pub fn in_context(context: &str, n: usize, rule: &str) -> (Vec<Message>, Vec<u8>) {
     let mut messages: Vec<Message> = (0..n)
         .map(|i| Message {
             id: sentence(i),
@@ -80,9 +94,15 @@ pub fn in_context(context: &str, n: usize, rule: &str) -> (Vec<Message>, Vec<u8>
         })
         .collect();
     messages.sort_by(|a, b| a.id.cmp(&b.id));
+    let file = catalog(&messages, "", "\0many", rule);
+    (messages, file)
+}
+
+/// A catalog of the messages, which are in the order of their ids, with what stands before and after each id, and a header with the rule.
+pub fn catalog(messages: &[Message], before: &str, after: &str, rule: &str) -> Vec<u8> {
     let header = format!("Content-Type: text/plain; charset=UTF-8\nPlural-Forms: nplurals=3; plural={rule};\n");
-    let pairs: Vec<(Vec<u8>, &str)> = std::iter::once((Vec::new(), &header[..]))
-        .chain(messages.iter().map(|m| (format!("{context}{}\0many", m.id).into_bytes(), &m.translation[..])))
+    let pairs: Vec<(String, &str)> = std::iter::once((String::new(), &header[..]))
+        .chain(messages.iter().map(|m| (format!("{before}{}{after}", m.id), &m.translation[..])))
         .collect();
     let count = pairs.len();
     let mut file = vec![0; 28 + 16 * count];
@@ -91,7 +111,7 @@ pub fn in_context(context: &str, n: usize, rule: &str) -> (Vec<Message>, Vec<u8>
     put(&mut file, 12, 28);
     put(&mut file, 16, 28 + 8 * count);
     for (k, (id, translation)) in pairs.iter().enumerate() {
-        for (table, text) in [(28, &id[..]), (28 + 8 * count, translation.as_bytes())] {
+        for (table, text) in [(28, id.as_bytes()), (28 + 8 * count, translation.as_bytes())] {
             let end = file.len();
             put(&mut file, table + 8 * k, text.len());
             put(&mut file, table + 8 * k + 4, end);
@@ -99,5 +119,5 @@ pub fn in_context(context: &str, n: usize, rule: &str) -> (Vec<Message>, Vec<u8>
             file.push(0);
         }
     }
-    (messages, file)
+    file
 }

@@ -21,14 +21,14 @@ pub fn text(s: &str) -> CString {
 }
 
 impl Domain {
-    /// The file as a domain of its own, if glibc then translates its first message.
-    pub fn open(scratch: &Path, n: usize, file: &[u8], first: &Message) -> Option<Domain> {
+    /// The file as a domain of its own, which no other has the name of, if glibc then translates its first message.
+    pub fn open(scratch: &Path, name: &str, file: &[u8], first: &Message) -> Option<Domain> {
         let folder = fs::canonicalize(scratch).ok()?.join("locale");
         let messages = folder.join("ru/LC_MESSAGES");
         fs::create_dir_all(&messages).ok()?;
-        fs::write(messages.join(format!("bench{n}.mo")), file).ok()?;
+        fs::write(messages.join(format!("{name}.mo")), file).ok()?;
         std::env::set_var("LANGUAGE", "ru");
-        let domain = Domain(text(&format!("bench{n}")));
+        let domain = Domain(text(name));
         let folder = CString::new(folder.as_os_str().as_bytes()).ok()?;
         // SAFETY: every pointer is to a text that ends in NUL and lives through the call; this process has one thread.
         unsafe {

@@ -27,7 +27,7 @@ mod plurals {
     include!(env!("GETTEXT_PLURALS"));
 }
 
-use files::{generated, in_context, real, Message};
+use files::{catalog, generated, messages, real, Message};
 
 #[global_allocator]
 static COUNTING: count::Counting = count::Counting;
@@ -174,7 +174,7 @@ fn lookup(rows: &mut Vec<Row>, scratch: &Path) {
         rows.push(faster("lookup", format!("miss, {n} entries"), "ns", l.miss.0, l.miss.1, "crate"));
         rows.push(faster("lookup", format!("plural hit, {n} entries"), "ns", l.plural_hit.0, l.plural_hit.1, "crate"));
         rows.push(faster("lookup", format!("plural miss, {n} entries"), "ns", l.plural_miss.0, l.plural_miss.1, "crate"));
-        if let Some(domain) = glibc::Domain::open(scratch, n, &file, &messages[0]) {
+        if let Some(domain) = glibc::Domain::open(scratch, &format!("scan{n}"), &file, &messages[0]) {
             let order = shuffled(n);
             let ids: Vec<_> = messages.iter().map(|m| glibc::text(&m.id)).collect();
             let theirs = nanoseconds(20_000, |k| keep(domain.gettext(&ids[order[k % n]])));
@@ -183,21 +183,35 @@ fn lookup(rows: &mut Vec<Row>, scratch: &Path) {
     }
 }
 
-/// Lookups by an index beside the crate's hash map and glibc, and building one beside the load of the same catalog.
-fn index(rows: &mut Vec<Row>, scratch: &Path) {
+/// n of the messages, taken here and there, in the order of their ids.
+fn some(all: &[Message], n: usize) -> Vec<Message> {
+    let mut messages: Vec<Message> = shuffled(all.len()).iter().take(n).map(|&i| all[i].clone()).collect();
+    messages.sort_by(|a, b| a.id.cmp(&b.id));
+    messages
+}
+
+/// Lookups by an index beside the crate's hash map and glibc, and building one beside the load of the same catalog. The ids and translations
+/// are those of real catalogs, generated ones where there are too few. For plural lookups each id has a plural id, and each translation is stored
+/// three times.
+fn index(rows: &mut Vec<Row>, scratch: &Path, folders: &[String]) {
+    let all = messages(folders, "ru");
     for n in [100, 1000, 9000] {
-        let (messages, file) = generated(n, RUSSIAN);
-        let (_, apart) = in_context("menu\u{4}", n, RUSSIAN);
-        let ours = gettext_rattle::Catalog::parse_slice(&file).expect("it loads").indexed();
-        let ours_apart = gettext_rattle::Catalog::parse_slice(&apart).expect("it loads").indexed();
-        let other = gettext::Catalog::parse(&file[..]).expect("it loads");
-        let other_apart = gettext::Catalog::parse(&apart[..]).expect("it loads");
+        let (messages, keys) = if n <= all.len() { (some(&all, n), "real") } else { (generated(n, RUSSIAN).0, "generated") };
+        let thrice: Vec<Message> =
+            messages.iter().map(|m| Message { id: m.id.clone(), translation: [&m.translation[..]; 3].join("\0") }).collect();
+        let file = catalog(&messages, "", "", RUSSIAN);
+        let apart = catalog(&messages, "menu\u{4}", "", RUSSIAN);
+        let plurals = catalog(&thrice, "", "\0many", RUSSIAN);
+        let [ours, ours_apart, ours_plural] =
+            [&file, &apart, &plurals].map(|f| gettext_rattle::Catalog::parse_slice(f).expect("it loads").indexed());
+        let [other, other_apart, other_plural] = [&file, &apart, &plurals].map(|f| gettext::Catalog::parse(&f[..]).expect("it loads"));
         let absent: Vec<String> = messages.iter().map(|m| format!("{}?", m.id)).collect();
         let order = shuffled(n);
         let (id, none) = (|k: usize| black_box(&messages[order[k % n]].id[..]), |k: usize| black_box(&absent[order[k % n]][..]));
         for k in 0..n {
-            assert_eq!(ours.ngettext(id(k), "many", 5), other.ngettext(id(k), "many", 5));
+            assert_eq!(ours.gettext(id(k)), other.gettext(id(k)));
             assert_eq!(ours_apart.pgettext("menu", id(k)), other_apart.pgettext("menu", id(k)));
+            assert_eq!(ours_plural.ngettext(id(k), "many", 5), other_plural.ngettext(id(k), "many", 5));
             assert_eq!(ours.gettext(none(k)), none(k));
         }
         // short runs, so that some fall between the other work of the machine; they go on through the keys, so that none stays in the cache
@@ -206,19 +220,27 @@ fn index(rows: &mut Vec<Row>, scratch: &Path) {
             let (mut a, mut b) = (0usize.., 0usize..);
             let each = race(400, [&mut || a.by_ref().take(times).for_each(&mut *mine), &mut || b.by_ref().take(times).for_each(&mut *theirs)]);
             let [mine, theirs] = each.map(|seconds| seconds / times as f64 * 1e9);
-            rows.push(faster("index", format!("{name}, {n} entries"), "ns", mine, theirs, "crate"));
+            rows.push(faster("index", format!("{name}, {n} {keys} entries"), "ns", mine, theirs, "crate"));
             mine
         };
         let hit = row("hit", &mut |k| keep(ours.gettext(id(k))), &mut |k| keep(other.gettext(id(k))));
         row("miss", &mut |k| keep(ours.gettext(none(k))), &mut |k| keep(other.gettext(none(k))));
         row("hit in a context", &mut |k| keep(ours_apart.pgettext("menu", id(k))), &mut |k| keep(other_apart.pgettext("menu", id(k))));
         row("miss in a context", &mut |k| keep(ours_apart.pgettext("menu", none(k))), &mut |k| keep(other_apart.pgettext("menu", none(k))));
-        row("plural hit", &mut |k| keep(ours.ngettext(id(k), "many", k as u64)), &mut |k| keep(other.ngettext(id(k), "many", k as u64)));
-        row("plural miss", &mut |k| keep(ours.ngettext(none(k), "many", k as u64)), &mut |k| keep(other.ngettext(none(k), "many", k as u64)));
-        if let Some(domain) = glibc::Domain::open(scratch, n, &file, &messages[0]) {
+        row(
+            "plural hit",
+            &mut |k| keep(ours_plural.ngettext(id(k), "many", k as u64)),
+            &mut |k| keep(other_plural.ngettext(id(k), "many", k as u64)),
+        );
+        row(
+            "plural miss",
+            &mut |k| keep(ours_plural.ngettext(none(k), "many", k as u64)),
+            &mut |k| keep(other_plural.ngettext(none(k), "many", k as u64)),
+        );
+        if let Some(domain) = glibc::Domain::open(scratch, &format!("index{n}"), &file, &messages[0]) {
             let ids: Vec<_> = messages.iter().map(|m| glibc::text(&m.id)).collect();
             let theirs = nanoseconds(20_000, |k| keep(domain.gettext(&ids[order[k % n]])));
-            rows.push(faster("index", format!("hit, {n} entries"), "ns", hit, theirs, "glibc"));
+            rows.push(faster("index", format!("hit, {n} {keys} entries"), "ns", hit, theirs, "glibc"));
         }
         let mut record = ffi::blank();
         ffi::load(&file, None, false, false, false, &mut record);
@@ -231,7 +253,7 @@ fn index(rows: &mut Vec<Row>, scratch: &Path) {
             ],
         )
         .map(|seconds| seconds * 1e9);
-        rows.push(faster("index", format!("building, {n} entries"), "ns", build, load, "our load"));
+        rows.push(faster("index", format!("building, {n} {keys} entries"), "ns", build, load, "our load"));
     }
 }
 
@@ -409,7 +431,7 @@ fn main() {
     utf8(&mut rows, &files);
     evaluation(&mut rows);
     lookup(&mut rows, Path::new(scratch));
-    index(&mut rows, Path::new(scratch));
+    index(&mut rows, Path::new(scratch), folders);
     let most = crossover();
     print!("{}", table(&rows, &most));
     fs::write(Path::new(out).join("bench.csv"), csv(&rows)).expect("the CSV is written");
