@@ -1,15 +1,15 @@
 -- The first NUL or byte 4 of an original, and what it tells of the places of both. Assumes nothing.
-use Prim.Native.Nat.{ℕ, suc, _+_, _<_, _≤_}
+use Prim.Native.Nat.{ℕ, zero, suc, _+_, _<_, _≤_}
 use mathlib.Core.Path.{_≡_, refl, sym, ap, _∙_}
 use mathlib.Core.Bool.{Bool, true, false, not}
 use mathlib.Core.List.{List, [], _∷_}
 use native.Mathlib.Omega.{arith}
-use lib.ListN.{length, drop, getD}
+use lib.ListN.{length, take, drop, getD}
 use lib.Dec.{eqb, leb}
 use borrow.Author.Tests.{eq-eqb, ne-eqb, eqb-true, lt-ltb, le-ltb, leb-true}
 use Rattle.text.specs.Bytes.{front, within, place}
 use Rattle.text.proofs.Tests.{taken, left, by-test, and-left}
-use Rattle.text.proofs.Front.{front-in, front-out}
+use Rattle.text.proofs.Front.{front-in, front-out, Counted, counted-within, counted-narrow}
 use Rattle.text.proofs.Walk.{rest-at, rest-end}
 use Rattle.container_layout.specs.Mo.{contextEnd, idStart, idEnd, hasContext}
 use Rattle.container_layout.specs.Private.{plain}
@@ -30,6 +30,22 @@ plain-high b e = let h : 5 ≤ b = leb-true 5 b (and-left (leb 5 b) (leb b 0xFF)
 -- counted from the start
 pub from-start : (w : ℕ → Bool) (s : List ℕ) {i : ℕ} → i ≡ 0 + front w (drop 0 s) → i ≡ front w s
 from-start w s e = let z : 0 + front w s ≡ front w s = omega arith in e ∙ z
+
+-- the bytes at the front of a part are at the front of the whole
+front-of-part : (v : ℕ → Bool) (s : List ℕ) (k : ℕ) → front v (take k s) ≤ front v s
+unfolding front
+front-of-part v s zero = omega arith
+front-of-part v [] (suc k) = omega arith
+front-of-part v (b ∷ s) (suc k) =
+    by-test (front v (b ∷ take k s) ≤ front v (b ∷ s)) (v b)
+    (λ e. omega (arith, front-in v b s e, front-in v b (take k s) e, front-of-part v s k))
+    (λ e. omega (arith, front-out v b (take k s) e))
+
+-- and are plain there
+pub part-plain : (o : List ℕ) (k : ℕ) {i : ℕ} → i ≡ 0 + front (within (5, 0xFF)) (drop 0 (take k o)) → Counted plain o 0 i
+part-plain o k {i} e =
+    counted-within plain o 0 (0 + front (within (5, 0xFF)) (drop 0 o)) i (counted-narrow plain (within (5, 0xFF)) plain-high o 0 refl) (omega arith)
+    (omega (arith, front-of-part (within (5, 0xFF)) o k))
 
 -- a byte that is sought is not plain
 plain-not : (x b : ℕ) → plain x ≡ false → plain b ≡ true → eqb b x ≡ false

@@ -102,11 +102,16 @@ pub struct Parts {
     pub end: usize,
 }
 
-// The first NUL or byte 4, or the length. Bytes from 5 on are passed over in blocks.
+// The first NUL or byte 4, or the length. Bytes from 5 on are passed over in blocks; without the last byte, which is NUL in most originals, so that
+// no block is broken off by it.
 fn find_mark(o: &[u8]) -> usize
     ensures { λ r. ⌜ r ≡ front plain (now (o .entry)) ⌝ }
 {
-    let mut i = text::span(o, 0, 5, 0xFF);
+    if o.len() == 0 {
+        return 0;
+    }
+    let last = o.len() - 1;
+    let mut i = text::span(&o[..last], 0, 5, 0xFF);
     while i < o.len() {
         if o[i] == 0 {
             return i;
