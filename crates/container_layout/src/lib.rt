@@ -38,17 +38,11 @@ pub fn wide(x: u32) -> usize
     x as usize
 }
 
-fn from_byte(b: u8) -> u32
-    ensures { λ r. ⌜ (r ≡ b) × (r < 256) ⌝ }
-{
-    b as u32
-}
-
 // Four bytes, the lowest first, as a number.
 fn from_bytes(a: u8, b: u8, c: u8, d: u8) -> u32
     ensures { λ r. ⌜ r ≡ fromBytes a b c d ⌝ }
 {
-    from_byte(a) + from_byte(b) * 256 + from_byte(c) * 65536 + from_byte(d) * 16777216
+    a as u32 + b as u32 * 256 + c as u32 * 65536 + d as u32 * 16777216
 }
 
 // The word at a place, in the file's byte order.

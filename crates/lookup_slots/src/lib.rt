@@ -18,12 +18,6 @@ fn from_byte(b: u8) -> usize
     b as usize
 }
 
-fn from_word(x: u32) -> usize
-    ensures { λ r. ⌜ (r ≡ x) × (r < 4294967296) ⌝ }
-{
-    x as usize
-}
-
 // The hash of the bytes after those whose hash is `start`, byte after byte.
 fn hash_bytes(start: usize, s: &[u8]) -> usize
     requires { ⌜ start < 4294967296 ⌝ }
@@ -115,7 +109,7 @@ fn used_of(count: usize) -> usize
 pub fn used_by(count: u32) -> usize
     ensures { λ r. ⌜ r ≡ used count ⌝ }
 {
-    used_of(from_word(count))
+    used_of(count as usize)
 }
 
 // The same, where so many are lent.
