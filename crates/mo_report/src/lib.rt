@@ -42,12 +42,6 @@ pub fn report(file: &[u8]) -> Said
     }
 }
 
-fn wide(n: u32) -> u64
-    ensures { λ r. ⌜ r ≡ n ⌝ }
-{
-    n as u64
-}
-
 fn show_rule(rated: Rated) {
     match rated {
         Rated::Range(lo, hi) => {
@@ -99,7 +93,7 @@ fn show_place(place: Where) {
 
 fn show_refusal(refusal: Refusal) {
     io::write_all(1, b"refused ");
-    io::print_decimal(1, wide(refusal::number_of(refusal::error_of(refusal))));
+    io::print_decimal(1, refusal::number_of(refusal::error_of(refusal)) as u64);
     show_place(refusal::place_of(refusal));
     io::write_all(1, b"\n");
 }
@@ -108,7 +102,7 @@ fn show(said: Said) {
     match said {
         Said::Entries(count, rated) => {
             io::write_all(1, b"entries ");
-            io::print_decimal(1, wide(count));
+            io::print_decimal(1, count as u64);
             io::write_all(1, b"\n");
             show_rule(rated);
         }

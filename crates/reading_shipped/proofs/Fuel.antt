@@ -26,11 +26,11 @@ same-if true h k = h refl
 same-if false h k = k refl
 
 -- a pattern has a sign
-Solid : List Row → Type 0
+unfoldable pub Solid : List Row → Type 0
 Solid [] = Unit {0}
 Solid (r ∷ rs) = (0 < length (r .pattern)) × Solid rs
 
-rows-solid : Solid rows
+pub rows-solid : Solid rows
 unfolding Solid
 rows-solid = omega arith
 

@@ -18,6 +18,7 @@ use Rattle.text_digits.specs.declared.Number.the-variants.{Whole, NoNumber}
 use Rattle.reading_scan.specs.Scan.{indexOf, endFrom}
 use Rattle.reading_levels.specs.Levels.{Kind, binary, ternary, Row, rows, found}
 use Rattle.reading_shipped.specs.Shipped.{one, two, three, readN, orN, readInt, bang, colon, readNot, choose, cut, level, inside, parens, parseIn, shipped}
+use Rattle.reading_shipped.proofs.Fuel.{Solid, rows-solid}
 
 -- a tree of at most n nodes, if any
 record Small (o : Reading) (n : ℕ) : Type 0 where
@@ -71,15 +72,6 @@ int-small (b ∷ s) = go (integer (b ∷ s))
     go : (x : Number) → Small (orN x (b ∷ s)) (length (b ∷ s))
     go (Whole v) = tree-small (int v) (omega arith)
     go NoNumber = wider (trim-le six (b ∷ s)) (n-small (trim six (b ∷ s)))
-
--- a pattern has a sign
-Solid : List Row → Type 0
-Solid [] = Unit {0}
-Solid (r ∷ rs) = (0 < length (r .pattern)) × Solid rs
-
-rows-solid : Solid rows
-unfolding Solid
-rows-solid = omega arith
 
 -- each definition, where the pieces have small trees
 module _ (p : List ℕ → Reading) (small : (s : List ℕ) → Small (p s) (length s)) where

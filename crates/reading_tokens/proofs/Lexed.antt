@@ -10,6 +10,9 @@ use lib.ListN.{length, drop, getD, length-drop, drop-of-length-le, List·getD-eq
 use lib.Seq.{drop-cons, drop-drop, getD-drop}
 use lib.Dec.{eqb, leb}
 use borrow.Author.Tests.{eq-eqb, ne-eqb, le-leb, lt-leb, leb-true, leb-false, lt-ltb, le-ltb}
+use Rattle.text.specs.Bytes.{front}
+use Rattle.text.proofs.Tests.{by-test}
+use Rattle.text.proofs.Front.{front-in, front-out, front-least, counted-end, counted-stop, counted-more}
 use Rattle.rules.specs.Tree.{Op}
 use Rattle.rules.specs.Store.{nodeCode}
 use Rattle.text_digits.specs.Digits.{digitOn}
@@ -22,62 +25,31 @@ use Rattle.reading_tokens.specs.declared.Next.{Next}
 use Rattle.reading_tokens.specs.declared.Next.the-variants as next
 use Rattle.reading_tokens.specs.declared.Next.the-variants.{End, Sign, Huge, Mark}
 use Rattle.reading_tokens.specs.declared.After.the-variants.{At, Other}
-use Rattle.reading_tokens.specs.Scan.{lead, skipped, width, after, first, next, passed}
+use Rattle.reading_tokens.specs.Scan.{skipped, width, after, first, next, passed}
 use Rattle.reading_tokens.specs.Private.{codeOf, signOf, pairFrom, singleFrom, ran}
 use Rattle.reading_grammar.proofs.Choice.{taken-if, left-if, both}
 use Rattle.reading_tokens.proofs.Rows.{past-end}
 
--- how many bytes in front pass a test
-module _ (f : ℕ → Bool) where
-  lead-taken : (b : ℕ) (s : List ℕ) → f b ≡ true → lead f (b ∷ s) ≡ suc (lead f s)
-  unfolding lead
-  lead-taken b s e = taken-if _ _ e
-
-  lead-left : (b : ℕ) (s : List ℕ) → f b ≡ false → lead f (b ∷ s) ≡ 0
-  unfolding lead
-  lead-left b s e = left-if _ _ e
-
-  lead-on : (s : List ℕ) (at : ℕ) → at < length s → f (getD s at 0) ≡ true → lead f (drop at s) ≡ suc (lead f (drop (at + 1) s))
-  lead-on s at h e = rw (drop-cons s at 0 h, add-one at) (lead-taken (getD s at 0) (drop (suc at) s) e)
-
-  lead-off : (s : List ℕ) (at : ℕ) → at < length s → f (getD s at 0) ≡ false → lead f (drop at s) ≡ 0
-  lead-off s at h e = rw (drop-cons s at 0 h) (lead-left (getD s at 0) (drop (suc at) s) e)
-
-  lead-end : (s : List ℕ) (at : ℕ) → length s ≤ at → lead f (drop at s) ≡ 0
-  unfolding lead
-  lead-end s at h = rw (drop-of-length-le s h) refl
-
-  pub lead-le : (s : List ℕ) → lead f s ≤ length s
-  unfolding lead
-  lead-le [] = omega arith
-  lead-le (b ∷ s) = go (f b) refl (lead-le s)
-    where
-      go : (x : Bool) → f b ≡ x → lead f s ≤ length s → lead f (b ∷ s) ≤ length (b ∷ s)
-      go true e h = omega (arith, lead-taken b s e)
-      go false e h = omega (arith, lead-left b s e)
-
-  stands : (s : List ℕ) → lead f s < length s → f (getD s (lead f s) 0) ≡ false
-  unfolding lead
-  stands [] h = absurd (omega arith)
-  stands (b ∷ s) h = go (f b) refl (stands s)
-    where
-      go : (x : Bool) → f b ≡ x → (lead f s < length s → f (getD s (lead f s) 0) ≡ false) → f (getD (b ∷ s) (lead f (b ∷ s)) 0) ≡ false
-      go true e k = rw (lead-taken b s e) (k (omega (arith, lead-taken b s e)))
-      go false e k = rw (lead-left b s e) e
+-- the byte after those in front that pass a test does not
+stands : (f : ℕ → Bool) (s : List ℕ) → front f s < length s → f (getD s (front f s) 0) ≡ false
+stands f s h =
+    by-test (f (getD s (front f s) 0) ≡ false) (f (getD s (front f s) 0))
+    (λ e. absurd (omega (arith, front-least f s (front f s) h e (omega arith))))
+    (λ e. e)
 
 -- skip
 module _ (s : List ℕ) (at : ℕ) where
   pub skip-end : length s ≤ at → at ≡ skipped s at
   unfolding skipped
-  skip-end h = omega (arith, lead-end blank s at h)
+  skip-end h = counted-end blank s at at h refl
 
   pub skip-blank : {r : ℕ} → at < length s → blank (getD s at 0) ≡ true → r ≡ skipped s (at + 1) → r ≡ skipped s at
   unfolding skipped
-  skip-blank h e w = omega (arith, lead-on blank s at h e)
+  skip-blank h e w = w ∙ sym (counted-more blank s at at h e refl)
 
   pub skip-stop : at < length s → (getD s at 0 ≡ 32 → ⊥) → (getD s at 0 ≡ 9 → ⊥) → at ≡ skipped s at
   unfolding skipped
-  skip-stop h i j = omega (arith, lead-off blank s at h (rw (ne-eqb _ _ i, ne-eqb _ _ j) refl))
+  skip-stop h i j = counted-stop blank s at at h (rw (ne-eqb _ _ i, ne-eqb _ _ j) refl) refl
 
 -- run
 first-small : (v e : ℕ) → v < 2 ^ 64 → first (number v ∷ []) e ≡ next.Number v e
@@ -97,30 +69,30 @@ grow-head v b r e = taken-if _ _ e
 -- the whole integer that begins with the digits of v, and the tokens after it
 pub record Run (v : ℕ) (s : List ℕ) : Type 0 where
   pub w : ℕ
-  pub is : lex (digits v) s ≡ number w ∷ tokens (drop (lead digit s) s)
+  pub is : lex (digits v) s ≡ number w ∷ tokens (drop (front digit s) s)
   pub grows : v ≤ w
 
 pub whole : (v : ℕ) (s : List ℕ) → Run v s
-unfolding tokens lead
+unfolding tokens front
 whole v [] = record { w = v; is = refl; grows = omega arith }
 whole v (b ∷ s) = go (digit b) refl (whole (10 * v + (b - 48)) s)
   where
     go : (d : Bool) → digit b ≡ d → Run (10 * v + (b - 48)) s → Run v (b ∷ s)
-    go true e g = record { w = g .w; is = grow-head v b s e ∙ (g .is ∙ rw (lead-taken digit b s e) refl); grows = omega (arith, g .grows) }
-    go false e g = record { w = v; is = stop-head v b s e ∙ rw (lead-left digit b s e) refl; grows = omega arith }
+    go true e g = record { w = g .w; is = grow-head v b s e ∙ (g .is ∙ rw (front-in digit b s e) refl); grows = omega (arith, g .grows) }
+    go false e g = record { w = v; is = stop-head v b s e ∙ rw (front-out digit b s e) refl; grows = omega arith }
 
 module _ (v : ℕ) (s : List ℕ) (at : ℕ) where
-  ran-is : (ts : List Token) (e : ℕ) → lex (digits v) (drop at s) ≡ ts → at + lead digit (drop at s) ≡ e → ran v s at ≡ first ts e
+  ran-is : (ts : List Token) (e : ℕ) → lex (digits v) (drop at s) ≡ ts → at + front digit (drop at s) ≡ e → ran v s at ≡ first ts e
   unfolding ran
   ran-is ts e i j = rw (i, j) refl
 
   pub run-end : v < 2 ^ 64 → length s ≤ at → next.Number v at ≡ ran v s at
   unfolding lex
-  run-end b h = sym (ran-is (number v ∷ []) at (rw (drop-of-length-le s h) refl) (omega (arith, lead-end digit s at h)) ∙ first-small v at b)
+  run-end b h = sym (ran-is (number v ∷ []) at (rw (drop-of-length-le s h) refl) (sym (counted-end digit s at at h refl)) ∙ first-small v at b)
 
   pub run-stop : v < 2 ^ 64 → at < length s → digit (getD s at 0) ≡ false → next.Number v at ≡ ran v s at
   run-stop b h e =
-      sym (ran-is (number v ∷ tokens (getD s at 0 ∷ drop (suc at) s)) at (rw (drop-cons s at 0 h) (stop-head v _ _ e)) (omega (arith, lead-off digit s at h e)) ∙ first-small v at b)
+      sym (ran-is (number v ∷ tokens (getD s at 0 ∷ drop (suc at) s)) at (rw (drop-cons s at 0 h) (stop-head v _ _ e)) (sym (counted-stop digit s at at h e refl)) ∙ first-small v at b)
 
   grow-at : at < length s → digit (getD s at 0) ≡ true → lex (digits v) (drop at s) ≡ lex (digits (10 * v + (getD s at 0 - 48))) (drop (at + 1) s)
   grow-at h e = rw (drop-cons s at 0 h, add-one at) (grow-head v _ _ e)
@@ -130,7 +102,7 @@ module _ (v : ℕ) (s : List ℕ) (at : ℕ) where
     unfolding ran
     run-more {w} g r =
         let k = on-whole v (getD s at 0) e (sym f ∙ g) in
-        r ∙ sym (ran-is (lex (digits w) (drop (at + 1) s)) (at + 1 + lead digit (drop (at + 1) s)) (rw k (grow-at h e)) (omega (arith, lead-on digit s at h e)))
+        r ∙ sym (ran-is (lex (digits w) (drop (at + 1) s)) (at + 1 + front digit (drop (at + 1) s)) (rw k (grow-at h e)) (counted-more digit s at at h e refl))
 
     pub run-huge : x ≡ NoNumber → Huge ≡ ran v s at
     run-huge g =
@@ -152,18 +124,18 @@ no-digit b e = go (leb 48 b) refl
         absurd (false≢true (sym (rw (ne-eqb b 32 (λ i. omega arith), ne-eqb b 9 (λ i. omega arith)) refl) ∙ e))
     go false h = rw h refl
 
-blanks : (s : List ℕ) → tokens s ≡ tokens (drop (lead blank s) s)
-unfolding lead
+blanks : (s : List ℕ) → tokens s ≡ tokens (drop (front blank s) s)
+unfolding front
 blanks [] = refl
 blanks (b ∷ s) = go (blank b) refl (blanks s)
   where
-    go : (x : Bool) → blank b ≡ x → tokens s ≡ tokens (drop (lead blank s) s) → tokens (b ∷ s) ≡ tokens (drop (lead blank (b ∷ s)) (b ∷ s))
-    go true e k = blank-head b s e (no-digit b e) ∙ (k ∙ rw (lead-taken blank b s e) refl)
-    go false e k = rw (lead-left blank b s e) refl
+    go : (x : Bool) → blank b ≡ x → tokens s ≡ tokens (drop (front blank s) s) → tokens (b ∷ s) ≡ tokens (drop (front blank (b ∷ s)) (b ∷ s))
+    go true e k = blank-head b s e (no-digit b e) ∙ (k ∙ rw (front-in blank b s e) refl)
+    go false e k = rw (front-out blank b s e) refl
 
 pub same : (s : List ℕ) (at : ℕ) → tokens (drop at s) ≡ tokens (drop (skipped s at) s)
 unfolding skipped
-same s at = blanks (drop at s) ∙ ap tokens (drop-drop (lead blank (drop at s)) at s)
+same s at = blanks (drop at s) ∙ ap tokens (drop-drop (front blank (drop at s)) at s)
 
 pub skips : (s : List ℕ) (at : ℕ) → at ≤ skipped s at
 unfolding skipped
@@ -176,11 +148,11 @@ none-left s i h = rw (drop-of-length-le s h) refl
 -- and the byte there is none
 pub no-blank : (s : List ℕ) (at : ℕ) → skipped s at < length s → blank (getD s (skipped s at) 0) ≡ false
 unfolding skipped
-no-blank s at h = rw (← getD-drop at s (lead blank (drop at s)) 0) (stands blank (drop at s) (omega (arith, length-drop at s)))
+no-blank s at h = rw (← getD-drop at s (front blank (drop at s)) 0) (stands blank (drop at s) (omega (arith, length-drop at s)))
 
 -- the tokens from a byte that begins one, and its width
 module _ (b : ℕ) (r : List ℕ) where
-  pub of-digit : digit b ≡ true → (tokens (b ∷ r) ≡ lex (digits (b - 48)) r) × (width (b ∷ r) ≡ suc (lead digit r))
+  pub of-digit : digit b ≡ true → (tokens (b ∷ r) ≡ lex (digits (b - 48)) r) × (width (b ∷ r) ≡ suc (front digit r))
   unfolding tokens width
   of-digit e = (taken-if _ _ e, taken-if _ _ e)
 
@@ -232,7 +204,7 @@ module _ (s : List ℕ) (at : ℕ) {i : ℕ} (k : i ≡ skipped s at) where
       let z = of-digit (getD s i 0) (drop (suc i) s) e in
       let n : getD s i 0 - 48 ≡ 10 * 0 + (getD s i 0 - 48) = omega arith in
       let g = z .0 ∙ ap (λ (v : ℕ). lex (digits v) (drop (suc i) s)) n ∙ sym (grow-head 0 (getD s i 0) (drop (suc i) s) e) in
-      r ∙ rw (drop-cons s i 0 h) (sym (at-byte _ _ h g (omega (arith, z .1, lead-taken digit (getD s i 0) (drop (suc i) s) e))))
+      r ∙ rw (drop-cons s i 0 h) (sym (at-byte _ _ h g (omega (arith, z .1, front-in digit (getD s i 0) (drop (suc i) s) e))))
 
   module _ {b c : ℕ} (h : i < length s) (eb : b ≡ getD s i 0) (ec : c ≡ getD s (i + 1) 0) (e : digit b ≡ false) where
     quiet : blank b ≡ false

@@ -9,6 +9,7 @@ use lib.ListN.{length, drop, getD, length-drop}
 use lib.Seq.{drop-cons, drop-drop}
 use lib.Dec.{leb, ltb, eqb}
 use borrow.Author.Tests.{leb-true, leb-false, ltb-true, ltb-false, eqb-true}
+use Rattle.text.proofs.Front.{front-length}
 use Rattle.rules.specs.Tree.{Tree, Op}
 use Rattle.reading_grammar.specs.Grammar.{Token, sign, number, mark}
 use Rattle.reading_grammar.specs.Tokens.{tokens, digit, blank, two, findOne, ones}
@@ -19,7 +20,7 @@ use Rattle.reading_tokens.specs.declared.After.{After}
 use Rattle.reading_tokens.specs.declared.After.the-variants.{At, Other}
 use Rattle.reading_tokens.specs.Scan.{Operator, skipped, width, after, first, next, passed}
 use Rattle.reading_grammar.proofs.Choice.{left-if}
-use Rattle.reading_tokens.proofs.Lexed.{lead-le, whole, same, none-left, skips, no-blank, of-digit, of-two, of-one}
+use Rattle.reading_tokens.proofs.Lexed.{whole, same, none-left, skips, no-blank, of-digit, of-two, of-one}
 
 -- a text that begins with a token: the token, and the tokens after its bytes
 record Begun (s : List ℕ) : Type 0 where
@@ -42,7 +43,7 @@ begun b r n = go (digit b) refl (two b r) refl
     go true e o t =
         let g = whole (b - 48) r in
         let z = of-digit b r e in
-        record { x = number (g .w); is = z .0 ∙ (g .is ∙ rw (z .1) refl); long = omega (arith, z .1); within = omega (arith, z .1, lead-le digit r) }
+        record { x = number (g .w); is = z .0 ∙ (g .is ∙ rw (z .1) refl); long = omega (arith, z .1); within = omega (arith, z .1, front-length digit r) }
     go false e (some op) t = begun-two b r op e n t
     go false e none t =
         let z = of-one b r e n t in

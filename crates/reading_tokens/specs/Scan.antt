@@ -2,11 +2,12 @@
 -- 01, "Two readings of a rule"), and the position after it.
 use Prim.Native.Nat.{ℕ, suc, _+_, _<_, _≤_, _^_}
 use mathlib.Core.Path.{_≡_}
-use mathlib.Core.Bool.{Bool, true, false}
+use mathlib.Core.Bool.{true, false}
 use mathlib.Core.List.{List, [], _∷_}
 use mathlib.Core.Option.{none, some}
 use lib.ListN.{drop}
 use lib.Dec.{ltb, eqb}
+use Rattle.text.specs.Bytes.{front}
 use Rattle.rules.specs.Tree.{Op}
 use Rattle.rules.specs.Store.{nodeCode}
 use Rattle.reading_grammar.specs.Grammar.{Token, sign, number, mark, rank}
@@ -24,19 +25,14 @@ pub record Operator (c : ℕ) : Type 0 where
 pub record Ranks (c r : ℕ) : Type 0 where
   pub is : (op : Op) → c ≡ nodeCode op → r ≡ rank op
 
--- how many bytes in front pass a test
-unfoldable pub lead : (ℕ → Bool) → List ℕ → ℕ
-lead f [] = 0
-lead f (b ∷ s) = elim (f b) [ true ↦ suc (lead f s) | false ↦ 0 ]
-
 -- the position past the blanks
 unfoldable pub skipped : List ℕ → ℕ → ℕ
-skipped s at = at + lead blank (drop at s)
+skipped s at = at + front blank (drop at s)
 
 -- how many bytes the token has that a text begins with: its digits, two of an operator, or one
 unfoldable pub width : List ℕ → ℕ
 width [] = 0
-width (b ∷ s) = elim (digit b) [ true ↦ suc (lead digit s) | false ↦ elim (two b s) [ some op ↦ 2 | none ↦ 1 ] ]
+width (b ∷ s) = elim (digit b) [ true ↦ suc (front digit s) | false ↦ elim (two b s) [ some op ↦ 2 | none ↦ 1 ] ]
 
 -- the position after the token that stands next
 unfoldable pub after : List ℕ → ℕ → ℕ

@@ -32,46 +32,31 @@ fn more_if(x: u64, yes: bool) -> u64 {
     if yes { more(x) } else { x }
 }
 
-fn wide(b: u8) -> usize
-    ensures { λ r. ⌜ r < 256 ⌝ }
-{
-    b as usize
-}
-
 // The byte at a place, 0 past the end.
-fn byte(s: &[u8], at: usize) -> usize
-    ensures { λ r. ⌜ r < 256 ⌝ }
-{
+fn byte(s: &[u8], at: usize) -> u8 {
     if at < s.len() {
-        return wide(s[at]);
+        return s[at];
     }
     0
-}
-
-fn long(x: usize) -> u64
-    requires { ⌜ x < 256 ⌝ }
-    ensures { λ r. ⌜ r < 256 ⌝ }
-{
-    x as u64
 }
 
 // The first two bytes as a number, the lowest first.
 fn two(s: &[u8]) -> usize
     ensures { λ r. ⌜ r < 65536 ⌝ }
 {
-    byte(s, 0) + 256 * byte(s, 1)
+    byte(s, 0) as usize + 256 * (byte(s, 1) as usize)
 }
 
 // The first eight.
 fn eight(s: &[u8]) -> u64 {
-    long(byte(s, 0))
-        + long(byte(s, 1)) * 256
-        + long(byte(s, 2)) * 65536
-        + long(byte(s, 3)) * 16777216
-        + long(byte(s, 4)) * 4294967296
-        + long(byte(s, 5)) * 1099511627776
-        + long(byte(s, 6)) * 281474976710656
-        + long(byte(s, 7)) * 72057594037927936
+    byte(s, 0) as u64
+        + byte(s, 1) as u64 * 256
+        + byte(s, 2) as u64 * 65536
+        + byte(s, 3) as u64 * 16777216
+        + byte(s, 4) as u64 * 4294967296
+        + byte(s, 5) as u64 * 1099511627776
+        + byte(s, 6) as u64 * 281474976710656
+        + byte(s, 7) as u64 * 72057594037927936
 }
 
 // At most so many bytes from the start.
@@ -91,7 +76,7 @@ fn from<'a>(s: &'a [u8], at: usize) -> &'a [u8] {
 }
 
 // Whose text answers: the file's, the id, the plural id.
-fn whose(text: Text) -> usize {
+fn whose(text: Text) -> u8 {
     match text {
         Text::Segment(start, len) => 0,
         Text::Id => 1,
@@ -99,7 +84,7 @@ fn whose(text: Text) -> usize {
     }
 }
 
-fn reading_of(flags: usize) -> Reading {
+fn reading_of(flags: u8) -> Reading {
     if flags / 2 % 2 == 1 {
         return Reading::Standard;
     }
@@ -114,7 +99,7 @@ fn agrees<'a>(
     got: &'a [u8],
     text: &'a [u8],
 ) -> bool {
-    if container_layout::wide(lookup::number_of(reason)) != byte(told, 3) {
+    if lookup::number_of(reason) != byte(told, 3) as u32 {
         return false;
     }
     if whose(answers) != byte(told, 4) {
@@ -176,10 +161,12 @@ fn call_agrees<'a>(
 
 fn lookup_agrees<'a>(told: &'a [u8], file: &'a [u8], catalog: Record) -> bool {
     let texts = from(told, 16);
-    let context = first(texts, byte(told, 13));
-    let after = from(texts, byte(told, 13));
-    let id = first(after, byte(told, 14));
-    let text = first(from(after, byte(told, 14)), byte(told, 15));
+    let of_context = byte(told, 13) as usize;
+    let of_id = byte(told, 14) as usize;
+    let context = first(texts, of_context);
+    let after = from(texts, of_context);
+    let id = first(after, of_id);
+    let text = first(from(after, of_id), byte(told, 15) as usize);
     // the call is 8 more where no bytes are lent with the record
     if byte(told, 2) < 8 {
         return call_agrees(told, file, catalog, context, id, text);
@@ -218,7 +205,7 @@ fn catalog_agrees(told: &[u8]) -> bool {
     };
     let loaded = container::load(file, rule, options);
     let outcome = loaded.outcome;
-    if container_layout::wide(refusal::outcome_number(outcome)) != byte(told, 3) {
+    if refusal::outcome_number(outcome) != byte(told, 3) as u32 {
         return false;
     }
     lookups_agree(list, file, loaded.record)
@@ -247,11 +234,11 @@ fn count_at(i: usize) -> u64 {
 }
 
 // A form as it is told: 64 for any above 63, 255 for a remainder by zero.
-fn told_form(r: Resolved) -> usize {
+fn told_form(r: Resolved) -> u64 {
     match r {
         Resolved::Form(x) => {
             if x < 64 {
-                return x as usize;
+                return x;
             }
             64
         }
@@ -273,7 +260,7 @@ fn forms_agree<'a>(
     let mut i = 0;
     while i < 16 {
         let form = rules_value::resolve(codes, places, values, nodes, nodes - 1, count_at(i));
-        if told_form(form) != byte(told, i) {
+        if told_form(form) != byte(told, i) as u64 {
             return false;
         }
         i += 1;
@@ -296,8 +283,8 @@ fn rule_agrees(told: &[u8]) -> bool {
         &mut values,
     );
     let outcome = parsed.outcome;
-    let number = container_layout::wide(refusal::outcome_number(outcome));
-    if number != byte(told, 3) {
+    let number = refusal::outcome_number(outcome);
+    if number != byte(told, 3) as u32 {
         return false;
     }
     if number != 0 {
@@ -325,8 +312,8 @@ fn show_case(k: u64) {
 }
 
 // The origins are the letters c, d and s.
-fn counted(t: Tally, origin: usize, yes: bool) -> Tally {
-    if origin == 99 {
+fn counted(t: Tally, origin: u8, yes: bool) -> Tally {
+    if origin == b'c' {
         return Tally {
             total: more(t.total),
             by_crate: more(t.by_crate),
@@ -337,7 +324,7 @@ fn counted(t: Tally, origin: usize, yes: bool) -> Tally {
             standard_agree: t.standard_agree,
         };
     }
-    if origin == 100 {
+    if origin == b'd' {
         return Tally {
             total: more(t.total),
             by_crate: t.by_crate,

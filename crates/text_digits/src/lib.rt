@@ -25,7 +25,7 @@ pub fn digit_on(v: u64, ch: u8) -> Number
     if !is_digit(ch) {
         return Number::NoNumber;
     }
-    let d = wide(ch - b'0');
+    let d = (ch - b'0') as u64;
     if 1844674407370955161 < v {
         return Number::NoNumber;
     }
@@ -33,12 +33,6 @@ pub fn digit_on(v: u64, ch: u8) -> Number
         return Number::NoNumber;
     }
     Number::Whole(10 * v + d)
-}
-
-fn wide(x: u8) -> u64
-    ensures { λ r. ⌜ r ≡ x ⌝ }
-{
-    x as u64
 }
 
 // Digits alone, at least one.

@@ -138,31 +138,31 @@ missing cs a b s h = lead-none cs (a ∷ b ∷ s) (λ e t i q. no e t (each-at (
 
 -- by the first byte
 module _ (a b c : ℕ) where
-  pub wide-c2 : a ≡ 0xC2 → lead whiteSpace (0xC2 ∷ b ∷ []) ≡ lead whiteSpace (a ∷ b ∷ c ∷ [])
+  pub more-c2 : a ≡ 0xC2 → lead whiteSpace (0xC2 ∷ b ∷ []) ≡ lead whiteSpace (a ∷ b ∷ c ∷ [])
   unfolding lead begins encode
-  wide-c2 e = rw e
+  more-c2 e = rw e
 
-  pub wide-e1 : a ≡ 0xE1 → threeIf 0x9A 0x80 b c ≡ lead whiteSpace (a ∷ b ∷ c ∷ [])
+  pub more-e1 : a ≡ 0xE1 → threeIf 0x9A 0x80 b c ≡ lead whiteSpace (a ∷ b ∷ c ∷ [])
   unfolding lead begins encode
-  wide-e1 e = rw e
+  more-e1 e = rw e
 
-  pub wide-e3 : a ≡ 0xE3 → threeIf 0x80 0x80 b c ≡ lead whiteSpace (a ∷ b ∷ c ∷ [])
+  pub more-e3 : a ≡ 0xE3 → threeIf 0x80 0x80 b c ≡ lead whiteSpace (a ∷ b ∷ c ∷ [])
   unfolding lead begins encode
-  wide-e3 e = rw e
+  more-e3 e = rw e
 
-  pub wide-e2-80 : a ≡ 0xE2 → b ≡ 0x80 → lead whiteSpace (0xE2 ∷ 0x80 ∷ c ∷ []) ≡ lead whiteSpace (a ∷ b ∷ c ∷ [])
-  wide-e2-80 e f = rw (e, f)
+  pub more-e2-80 : a ≡ 0xE2 → b ≡ 0x80 → lead whiteSpace (0xE2 ∷ 0x80 ∷ c ∷ []) ≡ lead whiteSpace (a ∷ b ∷ c ∷ [])
+  more-e2-80 e f = rw (e, f)
 
-  pub wide-e2 : a ≡ 0xE2 → (b ≡ 0x80 → ⊥) → threeIf 0x81 0x9F b c ≡ lead whiteSpace (a ∷ b ∷ c ∷ [])
+  pub more-e2 : a ≡ 0xE2 → (b ≡ 0x80 → ⊥) → threeIf 0x81 0x9F b c ≡ lead whiteSpace (a ∷ b ∷ c ∷ [])
   unfolding lead begins encode
-  wide-e2 e f =
+  more-e2 e f =
       by-test (threeIf 0x81 0x9F b c ≡ lead whiteSpace (a ∷ b ∷ c ∷ [])) (eqb b 0x81)
       (λ h. rw (e, eqb-true b 0x81 h))
       (λ h. sym (three-no 0x81 0x9F b c (eqb-false b 0x81 h)) ∙ sym (missing whiteSpace a b (c ∷ []) (rw (e, ne-eqb 0x80 b (λ q. f (sym q)), ne-eqb 0x81 b (λ q. eqb-false b 0x81 h (sym q))))))
 
-  pub wide-other : 128 ≤ a → (a ≡ 0xC2 → ⊥) → (a ≡ 0xE1 → ⊥) → (a ≡ 0xE2 → ⊥) → (a ≡ 0xE3 → ⊥) → 0 ≡ lead whiteSpace (a ∷ b ∷ c ∷ [])
+  pub more-other : 128 ≤ a → (a ≡ 0xC2 → ⊥) → (a ≡ 0xE1 → ⊥) → (a ≡ 0xE2 → ⊥) → (a ≡ 0xE3 → ⊥) → 0 ≡ lead whiteSpace (a ∷ b ∷ c ∷ [])
   unfolding encode
-  wide-other h e f g k = sym (missing whiteSpace a b (c ∷ []) rows)
+  more-other h e f g k = sym (missing whiteSpace a b (c ∷ []) rows)
     where
       rows : each (misses a b) whiteSpace ≡ true
       rows =
@@ -217,8 +217,8 @@ module _ (set : Set) (s : List ℕ) where
       let z = lead-same (charsOf set) (getD s 0 0 ∷ []) s (λ x i. begins-ascii (shape-of (code set) i) s (omega arith)) in
       p ∙ rw e z
 
-  pub first-wide : {a b c r : ℕ} → a ≡ getD s 0 0 → b ≡ getD s 1 0 → c ≡ getD s 2 0 → set ≡ WhiteSpace → r ≡ lead whiteSpace (a ∷ b ∷ c ∷ []) → r ≡ lead (charsOf set) s
-  first-wide e f g k p =
+  pub first-more : {a b c r : ℕ} → a ≡ getD s 0 0 → b ≡ getD s 1 0 → c ≡ getD s 2 0 → set ≡ WhiteSpace → r ≡ lead whiteSpace (a ∷ b ∷ c ∷ []) → r ≡ lead (charsOf set) s
+  first-more e f g k p =
       let z = lead-same (charsOf set) (getD s 0 0 ∷ getD s 1 0 ∷ getD s 2 0 ∷ []) s (λ x i. begins-three (shape-of (code set) i) s) in
       p ∙ rw (e, f, g) (rw k at z) ∙ ap (λ (x : Set). lead (charsOf x) s) (sym k)
 

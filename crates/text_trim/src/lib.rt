@@ -94,7 +94,7 @@ fn three(b: u8, c: u8, second: u8, third: u8) -> usize
 
 // How many bytes the white character has that begins with a, where b and c are the next bytes. It is asked of an a that is not ASCII only:
 // a byte below 128 is a character by itself.
-fn wide(a: u8, b: u8, c: u8) -> usize
+fn more_bytes(a: u8, b: u8, c: u8) -> usize
     requires { ⌜ 128 ≤ a ⌝ }
     ensures { λ r. ⌜ r ≡ lead whiteSpace (a ∷ b ∷ c ∷ []) ⌝ }
 {
@@ -135,7 +135,7 @@ fn first_char(s: &[u8], set: Set) -> usize
         return one_byte(set, a);
     }
     match set {
-        Set::WhiteSpace => wide(a, byte_at(s, 1), byte_at(s, 2)),
+        Set::WhiteSpace => more_bytes(a, byte_at(s, 1), byte_at(s, 2)),
         Set::Six => 0,
         Set::Label => 0,
     }

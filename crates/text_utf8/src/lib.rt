@@ -30,12 +30,6 @@ const STEPS: [u8; 144] = *b"\
     1555111111111111\
     1511111111111111";
 
-fn wide(b: u8) -> usize
-    ensures { λ r. ⌜ (r ≡ b) × (r < 256) ⌝ }
-{
-    b as usize
-}
-
 // Whether the text is right, by the tables.
 fn by_table<'a, 'b>(classes: &'b [u8; 256], steps: &'b [u8; 144], s: &'a [u8]) -> bool
     requires { ⌜ Tables (now classes) (now steps) ⌝ }
@@ -44,8 +38,8 @@ fn by_table<'a, 'b>(classes: &'b [u8; 256], steps: &'b [u8; 144], s: &'a [u8]) -
     let mut state = 0;
     let mut i = 0;
     while i < s.len() {
-        let class = wide(classes[wide(s[i])] % 16);
-        state = wide(steps[state * 16 + class] % 16);
+        let class = (classes[s[i] as usize] % 16) as usize;
+        state = (steps[state * 16 + class] % 16) as usize;
         i += 1;
     }
     state == 0

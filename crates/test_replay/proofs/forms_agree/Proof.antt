@@ -37,6 +37,9 @@ told-form-requires c κs = search needs
 byte-requires : tie.Need-byte-requires Inv-loop μ-loop
 byte-requires c κs = search needs
 
+cast-if2 : tie.Need-cast-if2 Inv-loop μ-loop
+cast-if2 c = search needs
+
 returns-2 : tie.Need-returns-2 Inv-loop μ-loop
 returns-2 c = search needs
 
@@ -65,6 +68,7 @@ forms-agree-spec =
     resolve-requires
     told-form-requires
     byte-requires
+    cast-if2
     returns-2
     add-i
     loop-less

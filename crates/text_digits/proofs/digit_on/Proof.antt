@@ -13,14 +13,14 @@ is-digit-requires c κs = search needs
 returns : tie.Need-returns
 returns c = digit-other (c .before .before .args .v) (c .before .before .args .ch) (sym (c .before .is-digit .ensures) ∙ not-true _ (c .if1 .taken))
 
-sub-wide : tie.Need-sub-wide
-sub-wide c = digit-from (c .before .before .args .ch) (sym (c .before .is-digit .ensures) ∙ not-false _ (c .if1 .left))
+sub-d : tie.Need-sub-d
+sub-d c = digit-from (c .before .before .args .ch) (sym (c .before .is-digit .ensures) ∙ not-false _ (c .if1 .left))
 
-wide-requires : tie.Need-wide-requires
-wide-requires c κs = search needs
+cast-d : tie.Need-cast-d
+cast-d c = search needs
 
 returns-2 : tie.Need-returns-2
-returns-2 c = digit-much (c .before .before .before .before .args .v) (c .before .before .before .before .args .ch) (sym (c .before .before .before .is-digit .ensures) ∙ not-false _ (c .before .before .if1 .left)) (omega arith)
+returns-2 c = digit-much (c .before .before .before .args .v) (c .before .before .before .args .ch) (sym (c .before .before .is-digit .ensures) ∙ not-false _ (c .before .if1 .left)) (omega arith)
 
 mul-if3 : tie.Need-mul-if3
 mul-if3 c = search needs
@@ -29,7 +29,7 @@ sub-if3 : tie.Need-sub-if3
 sub-if3 c = search needs
 
 returns-3 : tie.Need-returns-3
-returns-3 c = digit-much (c .before .before .before .before .before .args .v) (c .before .before .before .before .before .args .ch) (sym (c .before .before .before .before .is-digit .ensures) ∙ not-false _ (c .before .before .before .if1 .left)) (omega arith)
+returns-3 c = digit-much (c .before .before .before .before .args .v) (c .before .before .before .before .args .ch) (sym (c .before .before .before .is-digit .ensures) ∙ not-false _ (c .before .before .if1 .left)) (omega arith)
 
 mul-t7 : tie.Need-mul-t7
 mul-t7 c = search needs
@@ -38,7 +38,7 @@ add-t8 : tie.Need-add-t8
 add-t8 c = search needs
 
 returns-4 : tie.Need-returns-4
-returns-4 c = rw (c .before .before .wide .ensures) (digit-fits (c .before .before .before .before .before .args .v) (c .before .before .before .before .before .args .ch) (sym (c .before .before .before .before .is-digit .ensures) ∙ not-false _ (c .before .before .before .if1 .left)) (omega arith))
+returns-4 c = digit-fits (c .before .before .before .before .args .v) (c .before .before .before .before .args .ch) (sym (c .before .before .before .is-digit .ensures) ∙ not-false _ (c .before .before .if1 .left)) (omega arith)
 
 pub digit-on-spec : {M : Type 1} → statement M
 digit-on-spec =
@@ -46,8 +46,8 @@ digit-on-spec =
     (tie.spec
     is-digit-requires
     returns
-    sub-wide
-    wide-requires
+    sub-d
+    cast-d
     returns-2
     mul-if3
     sub-if3

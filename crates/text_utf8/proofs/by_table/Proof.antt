@@ -16,29 +16,29 @@ abbrev μ-loop : tie.MeasureT-loop
 loop-holds : tie.Need-loop-holds Inv-loop μ-loop
 loop-holds c = (begins, search needs)
 
-shared-slice-read-wide : tie.Need-shared-slice-read-wide Inv-loop μ-loop
-shared-slice-read-wide c = search needs
+shared-slice-read-class : tie.Need-shared-slice-read-class Inv-loop μ-loop
+shared-slice-read-class c = search needs
 
-wide-requires : tie.Need-wide-requires Inv-loop μ-loop
-wide-requires c κs = search needs
+cast-class : tie.Need-cast-class Inv-loop μ-loop
+cast-class c = omega (arith, c .shared-slice-known .given (c .before .before .loop .i))
 
-element-copy-out-wide : tie.Need-element-copy-out-wide Inv-loop μ-loop
-element-copy-out-wide c = search needs
+element-copy-out-class : tie.Need-element-copy-out-class Inv-loop μ-loop
+element-copy-out-class c = omega (arith, c .shared-slice-known .given (c .before .before .loop .i))
 
-wide-requires-2 : tie.Need-wide-requires-2 Inv-loop μ-loop
-wide-requires-2 c κs = search needs
+cast-class-2 : tie.Need-cast-class-2 Inv-loop μ-loop
+cast-class-2 c = search needs
 
-mul-wide : tie.Need-mul-wide Inv-loop μ-loop
-mul-wide c = omega (arith, c .before .before .before .before .before .loop .inv .0 .few)
+mul-state : tie.Need-mul-state Inv-loop μ-loop
+mul-state c = search needs
 
-add-wide : tie.Need-add-wide Inv-loop μ-loop
-add-wide c = omega (arith, c .before .before .before .before .before .loop .inv .0 .few, c .wide2 .ensures .1)
+add-state : tie.Need-add-state Inv-loop μ-loop
+add-state c = search needs
 
-element-copy-out-wide-2 : tie.Need-element-copy-out-wide-2 Inv-loop μ-loop
-element-copy-out-wide-2 c = omega (arith, c .wide2 .ensures .0, c .before .before .before .before .before .loop .inv .0 .few)
+element-copy-out-state : tie.Need-element-copy-out-state Inv-loop μ-loop
+element-copy-out-state c = search needs
 
-wide-requires-3 : tie.Need-wide-requires-3 Inv-loop μ-loop
-wide-requires-3 c κs = search needs
+cast-state : tie.Need-cast-state Inv-loop μ-loop
+cast-state c = search needs
 
 add-i : tie.Need-add-i Inv-loop μ-loop
 add-i c = search needs
@@ -47,7 +47,7 @@ loop-less : tie.Need-loop-less Inv-loop μ-loop
 loop-less c = search needs
 
 loop-again : tie.Need-loop-again Inv-loop μ-loop
-loop-again c = (rw (c .wide3 .ensures .0, c .before .before .wide2 .ensures .0, c .before .before .before .before .wide .ensures .0) (goes-on (c .before .before .before .before .before .before .before .before .before .pre) (c .before .before .before .before .before .before .before .loop .inv .0) (c .before .before .before .before .before .before .loop-test .taken) (omega (arith, c .before .before .before .before .wide .ensures .0, c .before .before .before .before .wide .ensures .1))), omega arith)
+loop-again c = (goes-on (c .before .before .before .before .before .pre) (c .before .before .before .before .loop .inv .0) (c .before .before .before .loop-test .taken) (omega (arith, c .before .before .shared-slice-known .given (c .before .before .before .before .loop .i))), omega arith)
 
 returns : tie.Need-returns Inv-loop μ-loop
 returns c = ends (c .before .loop .inv .0) (c .loop-test .left)
@@ -59,14 +59,14 @@ by-table-spec =
     Inv-loop
     μ-loop
     loop-holds
-    shared-slice-read-wide
-    wide-requires
-    element-copy-out-wide
-    wide-requires-2
-    mul-wide
-    add-wide
-    element-copy-out-wide-2
-    wide-requires-3
+    shared-slice-read-class
+    cast-class
+    element-copy-out-class
+    cast-class-2
+    mul-state
+    add-state
+    element-copy-out-state
+    cast-state
     add-i
     loop-less
     loop-again
