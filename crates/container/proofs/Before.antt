@@ -18,8 +18,8 @@ use Rattle.rules.specs.Tree.{Tree, defaultTree}
 use Rattle.reading_rule.specs.Plurals as plurals
 use Rattle.reading_rule.specs.Plurals.{Parse, rule, norule, readAs, isAscii}
 use Rattle.reading_rule.specs.declared.Reading.{Reading}
-use Rattle.header_fields.specs.declared.Place.{Place}
-use Rattle.header_fields.specs.declared.Place.the-variants as place
+use Rattle.text.specs.declared.Stretch.{Stretch}
+use Rattle.text.specs.declared.Stretch.the-variants as stretch
 use Rattle.header.specs.Header.{metadata}
 use Rattle.header.specs.declared.Metadata.{Metadata}
 use Rattle.header.specs.declared.Metadata.the-variants as metadata
@@ -73,18 +73,18 @@ parsed-same w reading s =
     ∙ ap (λ (x : Stage). elim (all isAscii t) [ true ↦ x | false ↦ stops PluralParsing ]) (made-same w (readAs reading t)))
 
 module _ (o : Options) where
-  ruled-same : (h : List ℕ) (r : Tree) (p : Place) (n : Forms) → forget (ruleIn (o .reading) h r (first.Rule p n)) ≡ ruled o h r p
-  ruled-same h r (place.At a l) n = parsed-same inRule (o .reading) (take l (drop a h))
-  ruled-same h r place.Absent n = refl
+  ruled-same : (h : List ℕ) (r : Tree) (p : Stretch) (n : Forms) → forget (ruleIn (o .reading) h r (first.Rule p n)) ≡ ruled o h r p
+  ruled-same h r (stretch.At a l) n = parsed-same inRule (o .reading) (take l (drop a h))
+  ruled-same h r stretch.Absent n = refl
 
-  known-same : (h : List ℕ) (r : Tree) (b : Bool) (p : Place) (n : Forms)
+  known-same : (h : List ℕ) (r : Tree) (b : Bool) (p : Stretch) (n : Forms)
       → forget (ruleIn (o .reading) h r (elim b [ true ↦ first.Rule p n | false ↦ first.Refused (at inHeader UnknownEncoding) ])) ≡ elim b [ true ↦ ruled o h r p | false ↦ stops UnknownEncoding ]
   known-same h r true p n = ruled-same h r p n
   known-same h r false p n = refl
 
   headed-same : (h : List ℕ) (r : Tree) (m : Metadata) → forget (ruleIn (o .reading) h r (choice.headed (o .forced) (o .utf8) h m)) ≡ headed o h r m
   headed-same h r metadata.Malformed = refl
-  headed-same h r (metadata.Fields label p n) = known-same h r (o .utf8 || labelOk h label) (elim (o .forced) [ true ↦ place.Absent | false ↦ p ]) n
+  headed-same h r (metadata.Fields label p n) = known-same h r (o .utf8 || labelOk h label) (elim (o .forced) [ true ↦ stretch.Absent | false ↦ p ]) n
 
   entry-same : (s : List ℕ) (r : Tree) (q : Read) → forget (entryStep o s r q) ≡ entryOf o s r (forgetRead q)
   unfolding entryStep header ruleAt

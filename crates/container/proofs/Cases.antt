@@ -24,7 +24,7 @@ use Rattle.reading_rule.specs.Plurals.{parsed, tested, made}
 use Rattle.reading_rule.specs.declared.Reading.the-variants.{Standard}
 use Rattle.container_layout.specs.Mo.{word, string, contextEnd, idStart, idEnd, context, id, entry, pieceAt, segment}
 use Rattle.container_layout.specs.declared.Tables.{Tables}
-use Rattle.container_layout.specs.declared.Stretch.the-variants as stretch
+use Rattle.text.specs.declared.Stretch.the-variants as stretch
 use Rattle.container_layout.specs.declared.Entry.the-variants as entries
 use Rattle.refusal.specs.Numbers.{numberOf}
 use Rattle.refusal.specs.declared.Where.{Where}
@@ -199,7 +199,7 @@ abbrev tablesF : ℕ → Tables
 tablesF n = record { length = n; big = false; count = 1; originals = 28; translations = 36 }
 
 pub places-hold : (entry fileF (tablesF 48) 0 ≡ entries.At 44 1 46 1) × (entry fileG (tablesF 50) 0 ≡ entries.At 44 1 46 3)
-    × (segment fileF 46 1 0 ≡ stretch.At 46 1) × (segment fileF 46 1 1 ≡ stretch.Outside)
-    × (segment fileG 46 3 0 ≡ stretch.At 46 1) × (segment fileG 46 3 1 ≡ stretch.At 48 1) × (segment fileG 46 3 18446744073709551616 ≡ stretch.Outside)
+    × (segment fileF 46 1 0 ≡ stretch.At 46 1) × (segment fileF 46 1 1 ≡ stretch.Absent)
+    × (segment fileG 46 3 0 ≡ stretch.At 46 1) × (segment fileG 46 3 1 ≡ stretch.At 48 1) × (segment fileG 46 3 18446744073709551616 ≡ stretch.Absent)
 unfolding entry word string idStart idEnd front segment pieceAt cut
 places-hold = (refl, refl, refl, refl, refl, refl, refl)

@@ -20,8 +20,8 @@ use Rattle.rules.specs.Range.{rateTree, fitsRange}
 use Rattle.rules.specs.declared.Rating.{Rating}
 use Rattle.rules.specs.declared.Rating.the-variants as rating
 use Rattle.reading_rule.specs.Plurals.{Parse, rule, norule, parsed}
-use Rattle.header_fields.specs.declared.Place.{Place}
-use Rattle.header_fields.specs.declared.Place.the-variants as place
+use Rattle.text.specs.declared.Stretch.{Stretch}
+use Rattle.text.specs.declared.Stretch.the-variants as stretch
 use Rattle.header.specs.Header.{metadata}
 use Rattle.header.specs.declared.Metadata.{Metadata}
 use Rattle.header.specs.declared.Metadata.the-variants.{Malformed, Fields}
@@ -29,7 +29,6 @@ use Rattle.header_forms.specs.declared.Forms.{Forms}
 use Rattle.header_forms.specs.declared.Forms.the-variants as forms
 use Rattle.container_layout.specs.Mo.{string, original, id, segments}
 use Rattle.container_layout.specs.declared.Tables.{Tables}
-use Rattle.container_layout.specs.declared.Stretch.the-variants as stretch
 use Rattle.container_messages.specs.Messages.{readAt}
 use Rattle.container_messages.specs.Good.{Good}
 use Rattle.container_messages.specs.declared.Read.{Read}
@@ -74,45 +73,45 @@ then-rule (norule x) f e = absurd (never e)
 
 -- the header's rule: where the header hands on a rule, it is fine, and the rule is the one before where one is forced or none is given
 record HandsOn (o : Options) (h : List ℕ) (r u : Tree) : Type 0 where
-  lies : Place
+  lies : Stretch
   fine : Fine o h lies
   if-forced : o .forced ≡ true → u ≡ r
-  if-given : (a l : ℕ) → o .forced ≡ false → lies ≡ place.At a l → parsed inRule (o .reading) (take l (drop a h)) ≡ rule u
-  if-absent : o .forced ≡ false → lies ≡ place.Absent → u ≡ r
+  if-given : (a l : ℕ) → o .forced ≡ false → lies ≡ stretch.At a l → parsed inRule (o .reading) (take l (drop a h)) ≡ rule u
+  if-absent : o .forced ≡ false → lies ≡ stretch.Absent → u ≡ r
 
 module _ (o : Options) (h : List ℕ) (r u : Tree) where
   by-fields : (m : Metadata) → metadata h ≡ m → ruleIn (o .reading) h r (headed (o .forced) (o .utf8) h m) ≡ rule u → HandsOn o h r u
   by-fields Malformed e g = absurd (never g)
   by-fields (Fields label p n) e g =
       by-test (HandsOn o h r u) (o .utf8 || labelOk h label)
-      (λ k. let w : ruleIn (o .reading) h r (first.Rule (elim (o .forced) [ true ↦ place.Absent | false ↦ p ]) n) ≡ rule u =
-      sym (ap (ruleIn (o .reading) h r) (taken (first.Rule (elim (o .forced) [ true ↦ place.Absent | false ↦ p ]) n) (first.Refused (at inHeader UnknownEncoding)) k)) ∙ g in
+      (λ k. let w : ruleIn (o .reading) h r (first.Rule (elim (o .forced) [ true ↦ stretch.Absent | false ↦ p ]) n) ≡ rule u =
+      sym (ap (ruleIn (o .reading) h r) (taken (first.Rule (elim (o .forced) [ true ↦ stretch.Absent | false ↦ p ]) n) (first.Refused (at inHeader UnknownEncoding)) k)) ∙ g in
       record {
         lies = p;
         fine = record { label = label; forms = n; fields = e; known = k };
-        if-forced = λ t. same-rule (sym (sym (ap (λ (q : Place). ruleIn (o .reading) h r (first.Rule q n)) (taken place.Absent p t)) ∙ w));
-        if-given = λ a l t q. sym (ap (λ (x : Place). ruleIn (o .reading) h r (first.Rule x n)) (left place.Absent p t ∙ q)) ∙ w;
-        if-absent = λ t q. same-rule (sym (sym (ap (λ (x : Place). ruleIn (o .reading) h r (first.Rule x n)) (left place.Absent p t ∙ q)) ∙ w));
+        if-forced = λ t. same-rule (sym (sym (ap (λ (q : Stretch). ruleIn (o .reading) h r (first.Rule q n)) (taken stretch.Absent p t)) ∙ w));
+        if-given = λ a l t q. sym (ap (λ (x : Stretch). ruleIn (o .reading) h r (first.Rule x n)) (left stretch.Absent p t ∙ q)) ∙ w;
+        if-absent = λ t q. same-rule (sym (sym (ap (λ (x : Stretch). ruleIn (o .reading) h r (first.Rule x n)) (left stretch.Absent p t ∙ q)) ∙ w));
       })
-      (λ k. absurd (never (sym (ap (ruleIn (o .reading) h r) (left (first.Rule (elim (o .forced) [ true ↦ place.Absent | false ↦ p ]) n) (first.Refused (at inHeader UnknownEncoding)) k)) ∙ g)))
+      (λ k. absurd (never (sym (ap (ruleIn (o .reading) h r) (left (first.Rule (elim (o .forced) [ true ↦ stretch.Absent | false ↦ p ]) n) (first.Refused (at inHeader UnknownEncoding)) k)) ∙ g)))
 
   hands-on : header o h r ≡ rule u → HandsOn o h r u
   unfolding header ruleAt
   hands-on g = by-fields (metadata h) refl g
 
 -- and back: a fine header hands on
-module _ (o : Options) (h : List ℕ) (r : Tree) {p : Place} (w : Fine o h p) where
-  at-rule : header o h r ≡ ruleIn (o .reading) h r (first.Rule (elim (o .forced) [ true ↦ place.Absent | false ↦ p ]) (w .forms))
+module _ (o : Options) (h : List ℕ) (r : Tree) {p : Stretch} (w : Fine o h p) where
+  at-rule : header o h r ≡ ruleIn (o .reading) h r (first.Rule (elim (o .forced) [ true ↦ stretch.Absent | false ↦ p ]) (w .forms))
   unfolding header ruleAt
   at-rule =
       ap (λ (m : Metadata). ruleIn (o .reading) h r (headed (o .forced) (o .utf8) h m)) (w .fields)
-      ∙ ap (ruleIn (o .reading) h r) (taken (first.Rule (elim (o .forced) [ true ↦ place.Absent | false ↦ p ]) (w .forms)) (first.Refused (at inHeader UnknownEncoding)) (w .known))
+      ∙ ap (ruleIn (o .reading) h r) (taken (first.Rule (elim (o .forced) [ true ↦ stretch.Absent | false ↦ p ]) (w .forms)) (first.Refused (at inHeader UnknownEncoding)) (w .known))
 
   forced-on : o .forced ≡ true → header o h r ≡ rule r
-  forced-on t = at-rule ∙ ap (λ (q : Place). ruleIn (o .reading) h r (first.Rule q (w .forms))) (taken place.Absent p t)
+  forced-on t = at-rule ∙ ap (λ (q : Stretch). ruleIn (o .reading) h r (first.Rule q (w .forms))) (taken stretch.Absent p t)
 
-  given-on : o .forced ≡ false → {q : Place} → p ≡ q → header o h r ≡ ruleIn (o .reading) h r (first.Rule q (w .forms))
-  given-on t e = at-rule ∙ ap (λ (q : Place). ruleIn (o .reading) h r (first.Rule q (w .forms))) (left place.Absent p t ∙ e)
+  given-on : o .forced ≡ false → {q : Stretch} → p ≡ q → header o h r ≡ ruleIn (o .reading) h r (first.Rule q (w .forms))
+  given-on t e = at-rule ∙ ap (λ (q : Stretch). ruleIn (o .reading) h r (first.Rule q (w .forms))) (left stretch.Absent p t ∙ e)
 
 -- an entry has its facts in one way only, and a file one header
 module _ (s : List ℕ) (t : Tables) where
@@ -150,7 +149,7 @@ module _ (s : List ℕ) (t : Tables) where
       ∙ rest-good o k (suc i) r (omega arith) (λ j l m. g j (omega arith) (omega arith))
 
   -- the count of the file: that of its header, or none
-  header-forms : {h : List ℕ} → IsHeader s t h → {label p : Place} {n : Forms} → metadata h ≡ Fields label p n → fileForms s t ≡ n
+  header-forms : {h : List ℕ} → IsHeader s t h → {label p : Stretch} {n : Forms} → metadata h ≡ Fields label p n → fileForms s t ≡ n
   unfolding fileForms
   header-forms {h} w {label} {p} {n} g = by-count (t .count) refl
     where
@@ -232,14 +231,14 @@ module _ (o : Options) (f s : List ℕ) (t : Tables) (r : Tree) (n : Forms) wher
     given-rule : o .forced ≡ false → (l : 0 < t .count) → id (original s (good 0 l .at) (good 0 l .len)) ≡ [] → Counts o f s t r
     given-rule q l z = by-place (handed (is-header l z) .lies) refl
       where
-        by-place : (p : Place) → handed (is-header l z) .lies ≡ p → Counts o f s t r
-        by-place (place.At a m) x = given q (is-header l z) (fine-at x) (handed (is-header l z) .if-given a m q x)
+        by-place : (p : Stretch) → handed (is-header l z) .lies ≡ p → Counts o f s t r
+        by-place (stretch.At a m) x = given q (is-header l z) (fine-at x) (handed (is-header l z) .if-given a m q x)
           where
-            fine-at : handed (is-header l z) .lies ≡ place.At a m → Fine o (its-header l) (place.At a m)
+            fine-at : handed (is-header l z) .lies ≡ stretch.At a m → Fine o (its-header l) (stretch.At a m)
             fine-at y = rw y at (handed (is-header l z) .fine)
-        by-place place.Absent x = absent q (is-header l z) (fine-no x) (handed (is-header l z) .if-absent q x ∙ not-forced q)
+        by-place stretch.Absent x = absent q (is-header l z) (fine-no x) (handed (is-header l z) .if-absent q x ∙ not-forced q)
           where
-            fine-no : handed (is-header l z) .lies ≡ place.Absent → Fine o (its-header l) place.Absent
+            fine-no : handed (is-header l z) .lies ≡ stretch.Absent → Fine o (its-header l) stretch.Absent
             fine-no y = rw y at (handed (is-header l z) .fine)
 
     counts : Counts o f s t r

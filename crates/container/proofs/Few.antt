@@ -18,7 +18,7 @@ use Rattle.reading_rule.specs.Plurals as plurals
 use Rattle.reading_rule.specs.Plurals.{Parse, rule, norule}
 use Rattle.reading_rule.specs.declared.Reading.{Reading}
 use Rattle.reading_rule.proofs.Nodes.{at-most-512-nodes}
-use Rattle.header_fields.specs.declared.Place.the-variants.{At, Absent}
+use Rattle.text.specs.declared.Stretch.the-variants.{At, Absent}
 use Rattle.header_forms.specs.declared.Forms.{Forms}
 use Rattle.container_layout.specs.Mo.{segments}
 use Rattle.container_layout.specs.declared.Tables.{Tables}

@@ -17,7 +17,7 @@ use Rattle.rules.proofs.Stored.{packed-pos}
 use Rattle.reading_rule.specs.Plurals as plurals
 use Rattle.reading_rule.specs.Plurals.{Parse, rule, norule, parsed, Parses}
 use Rattle.reading_rule.specs.declared.Parsed.{Parsed}
-use Rattle.header_fields.specs.declared.Place.the-variants as place
+use Rattle.text.specs.declared.Stretch.the-variants as stretch
 use Rattle.header_forms.specs.declared.Forms.{Forms}
 use Rattle.container_layout.specs.Mo.{segments}
 use Rattle.container_layout.specs.declared.Tables.{Tables}
@@ -66,8 +66,8 @@ stepOf (outcome.Refused x) t = norule x
 module _ (o : Options) (s : List ℕ) (start len : ℕ) (i : start + len ≤ length s) where
   same-rule : (r : Tree) (f : First) → endOfRule f ≤ length (segment0 (segments s start len))
       → ruleIn (o .reading) s r (shifted start f) ≡ ruleIn (o .reading) (segment0 (segments s start len)) r f
-  same-rule r (first.Rule (place.At a l) n) h = ap (parsed inRule (o .reading)) (same-part s start len i a l h)
-  same-rule r (first.Rule place.Absent n) h = refl
+  same-rule r (first.Rule (stretch.At a l) n) h = ap (parsed inRule (o .reading)) (same-part s start len i a l h)
+  same-rule r (first.Rule stretch.Absent n) h = refl
   same-rule r (first.Refused e) h = refl
 
   header-rule : (r : Tree) → ruleIn (o .reading) s r (headerAt (o .forced) (o .utf8) s start len) ≡ header o (segment0 (segments s start len)) r

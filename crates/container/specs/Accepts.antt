@@ -14,8 +14,8 @@ use Rattle.rules.specs.Tree.{Tree, defaultTree}
 use Rattle.rules.specs.Range.{rateTree}
 use Rattle.rules.specs.declared.Rating.the-variants.{Range}
 use Rattle.reading_rule.specs.Plurals.{rule, norule, parsed}
-use Rattle.header_fields.specs.declared.Place.{Place}
-use Rattle.header_fields.specs.declared.Place.the-variants as place
+use Rattle.text.specs.declared.Stretch.{Stretch}
+use Rattle.text.specs.declared.Stretch.the-variants as stretch
 use Rattle.header.specs.Header.{metadata}
 use Rattle.header.specs.declared.Metadata.the-variants.{Fields}
 use Rattle.header_forms.specs.declared.Forms.{Forms}
@@ -47,8 +47,8 @@ pub record IsHeader (s : List ℕ) (t : Tables) (h : List ℕ) : Type 0 where
   pub is : h ≡ segment0 (segments s (good .start) (good .size))
 
 -- every line of a header is empty or has a colon, its label is UTF-8's or absent or passed over, and p is where its rule lies, or none
-pub record Fine (o : Options) (h : List ℕ) (p : Place) : Type 0 where
-  pub label : Place
+pub record Fine (o : Options) (h : List ℕ) (p : Stretch) : Type 0 where
+  pub label : Stretch
   pub forms : Forms
   pub fields : metadata h ≡ Fields label p forms
   pub known : (o .utf8 || labelOk h label) ≡ true
@@ -56,17 +56,17 @@ pub record Fine (o : Options) (h : List ℕ) (p : Place) : Type 0 where
 -- 1 and 6. which rule counts: the forced one, else the header's, else the default
 pub data Counts (o : Options) (f s : List ℕ) (t : Tables) (r : Tree) : Type 0 where
   forced : o .forced ≡ true → parsed place-of.Forced (o .reading) f ≡ rule r → Counts o f s t r
-  given : o .forced ≡ false → {h : List ℕ} {start len : ℕ} → IsHeader s t h → Fine o h (place.At start len) → parsed inRule (o .reading) (take len (drop start h)) ≡ rule r → Counts o f s t r
-  absent : o .forced ≡ false → {h : List ℕ} → IsHeader s t h → Fine o h place.Absent → r ≡ defaultTree → Counts o f s t r
+  given : o .forced ≡ false → {h : List ℕ} {start len : ℕ} → IsHeader s t h → Fine o h (stretch.At start len) → parsed inRule (o .reading) (take len (drop start h)) ≡ rule r → Counts o f s t r
+  absent : o .forced ≡ false → {h : List ℕ} → IsHeader s t h → Fine o h stretch.Absent → r ≡ defaultTree → Counts o f s t r
   headless : o .forced ≡ false → ((h : List ℕ) → IsHeader s t h → ⊥) → r ≡ defaultTree → Counts o f s t r
 
 pub record SomeFine (o : Options) (h : List ℕ) : Type 0 where
-  pub place : Place
+  pub place : Stretch
   pub fine : Fine o h place
 
 -- the count of forms is the header's, whatever rule counts; without a header there is none
 pub data Carries (s : List ℕ) (t : Tables) (n : Forms) : Type 0 where
-  in-header : {h : List ℕ} {label p : Place} → IsHeader s t h → metadata h ≡ Fields label p n → Carries s t n
+  in-header : {h : List ℕ} {label p : Stretch} → IsHeader s t h → metadata h ≡ Fields label p n → Carries s t n
   no-header : ((h : List ℕ) → IsHeader s t h → ⊥) → n ≡ Absent → Carries s t n
 
 -- every test but the last

@@ -14,8 +14,8 @@ use Rattle.rules.specs.Tree as tree
 use Rattle.rules.specs.Tree.{Tree, defaultTree}
 use Rattle.reading_rule.specs.Plurals.{readAs, isAscii}
 use Rattle.reading_rule.specs.declared.Reading.{Reading}
-use Rattle.header_fields.specs.declared.Place.{Place}
-use Rattle.header_fields.specs.declared.Place.the-variants as place
+use Rattle.text.specs.declared.Stretch.{Stretch}
+use Rattle.text.specs.declared.Stretch.the-variants as stretch
 use Rattle.header.specs.Header.{metadata}
 use Rattle.header.specs.declared.Metadata.{Metadata}
 use Rattle.header.specs.declared.Metadata.the-variants as metadata
@@ -53,14 +53,14 @@ abbrev pub parsed : Reading → List ℕ → Stage
 parsed reading s = tested reading (trim whiteSpace s)
 
 -- the header h; r is the rule so far
-abbrev pub ruled : Options → List ℕ → Tree → Place → Stage
-ruled o h r (place.At start len) = parsed (o .reading) (take len (drop start h))
-ruled o h r place.Absent = hands r
+abbrev pub ruled : Options → List ℕ → Tree → Stretch → Stage
+ruled o h r (stretch.At start len) = parsed (o .reading) (take len (drop start h))
+ruled o h r stretch.Absent = hands r
 
 abbrev pub headed : Options → List ℕ → Tree → Metadata → Stage
 headed o h r metadata.Malformed = stops MalformedMetadata
 headed o h r (metadata.Fields label p n) =
-    elim (o .utf8 || labelOk h label) [ true ↦ ruled o h r (elim (o .forced) [ true ↦ place.Absent | false ↦ p ]) | false ↦ stops UnknownEncoding ]
+    elim (o .utf8 || labelOk h label) [ true ↦ ruled o h r (elim (o .forced) [ true ↦ stretch.Absent | false ↦ p ]) | false ↦ stops UnknownEncoding ]
 
 -- an entry
 abbrev pub entryOf : Options → List ℕ → Tree → read.Read → Stage

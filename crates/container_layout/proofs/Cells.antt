@@ -8,7 +8,7 @@ use lib.ListN.{length, getD}
 use borrow.Author.Tests.{le-leb, lt-leb, leb-true}
 use Rattle.text.proofs.Tests.{taken, left, by-test}
 use Rattle.container_layout.specs.Mo.{fromBytes, word, within, string, hasCell, hasString}
-use Rattle.container_layout.specs.declared.Stretch.the-variants.{At, Outside}
+use Rattle.text.specs.declared.Stretch.the-variants.{At, Absent}
 
 module _ (s : List ℕ) (at : ℕ) {r : ℕ} {big : Bool} where
   pub read-big : big ≡ true → r ≡ fromBytes (getD s (at + 3) 0) (getD s (at + 2) 0) (getD s (at + 1) 0) (getD s at 0) → r ≡ word big s at
@@ -21,14 +21,14 @@ module _ (s : List ℕ) (at : ℕ) {r : ℕ} {big : Bool} where
 
 -- a cell's string, by the words that were read
 module _ (s : List ℕ) {start len v w : ℕ} (e : start ≡ v) (f : len ≡ w) where
-  pub string-out : length s < start + len + 1 → Outside ≡ within s v w
+  pub string-out : length s < start + len + 1 → Absent ≡ within s v w
   string-out h = rw (← e, ← f) (sym (left _ _ (lt-leb (start + len + 1) (length s) h)))
 
   pub string-in : start + len + 1 ≤ length s → At start len ≡ within s v w
   string-in h = rw (← e, ← f) (sym (taken _ _ (le-leb (start + len + 1) (length s) h)))
 
 module _ (big : Bool) (s : List ℕ) (table i : ℕ) where
-  pub no-cell : length s < table + 8 * i + 8 → Outside ≡ string big s table i
+  pub no-cell : length s < table + 8 * i + 8 → Absent ≡ string big s table i
   unfolding string
   no-cell h = sym (left _ _ (lt-leb (table + 8 * i + 8) (length s) h))
 
@@ -37,7 +37,7 @@ module _ (big : Bool) (s : List ℕ) (table i : ℕ) where
   has-cell e h = rw e (sym (taken _ _ (le-leb (table + 8 * i + 8) (length s) h)))
 
 -- nothing lies outside
-pub never-out : {a l : ℕ} → Outside ≡ At a l → ⊥
+pub never-out : {a l : ℕ} → Absent ≡ At a l → ⊥
 never-out e = let z : _≡_ {A = ℕ} 0 1 = cc in omega arith
 
 within-told : (s : List ℕ) (v w a l : ℕ) → within s v w ≡ At a l → a + l + 1 ≤ length s

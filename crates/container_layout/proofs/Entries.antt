@@ -10,8 +10,8 @@ use Rattle.text.proofs.Tests.{taken, left}
 use Rattle.container_layout.specs.Mo.{string, original, idEnd, keyed, translated, entry}
 use Rattle.container_layout.specs.Promise.{Splits}
 use Rattle.container_layout.specs.declared.Tables.{Tables}
-use Rattle.container_layout.specs.declared.Stretch.{Stretch}
-use Rattle.container_layout.specs.declared.Stretch.the-variants as stretch
+use Rattle.text.specs.declared.Stretch.{Stretch}
+use Rattle.text.specs.declared.Stretch.the-variants as stretch
 use Rattle.container_layout.specs.declared.Entry.the-variants.{At, NoEntry}
 use Rattle.container_layout.specs.declared.Parts.{Parts}
 use Rattle.container_layout.proofs.Cells.{string-told}
@@ -24,7 +24,7 @@ pub original-length : (s : List ℕ) (start len : ℕ) → start + len + 1 ≤ l
 original-length s start len h = length-take-le (len + 1) (drop start s) (omega (arith, length-drop start s))
 
 module _ (s : List ℕ) (t : Tables) (i : ℕ) where
-  pub no-original : {x : Stretch} → x ≡ string (t .big) s (t .originals) i → x ≡ stretch.Outside → NoEntry ≡ entry s t i
+  pub no-original : {x : Stretch} → x ≡ string (t .big) s (t .originals) i → x ≡ stretch.Absent → NoEntry ≡ entry s t i
   unfolding entry
   no-original e f = rw (← e, f)
 
@@ -46,7 +46,7 @@ module _ (s : List ℕ) (t : Tables) (i : ℕ) where
     at-key : p .end ≤ l → entry s t i ≡ translated (string (t .big) s (t .translations) i) a (idEnd (original s a l))
     at-key h = as-keyed ∙ taken _ _ (lt-ltb (idEnd (original s a l)) (length (original s a l)) (omega (arith, size, key-end)))
 
-    pub no-translation : {y : Stretch} → p .end ≤ l → y ≡ string (t .big) s (t .translations) i → y ≡ stretch.Outside → NoEntry ≡ entry s t i
+    pub no-translation : {y : Stretch} → p .end ≤ l → y ≡ string (t .big) s (t .translations) i → y ≡ stretch.Absent → NoEntry ≡ entry s t i
     no-translation h u v = sym (at-key h ∙ ap (λ (z : Stretch). translated z a (idEnd (original s a l))) (sym u ∙ v))
 
     pub is-entry : {b m : ℕ} {y : Stretch} → p .end ≤ l → y ≡ string (t .big) s (t .translations) i → y ≡ stretch.At b m → At a (p .end) b m ≡ entry s t i

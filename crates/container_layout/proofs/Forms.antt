@@ -13,7 +13,7 @@ use Rattle.text.proofs.Tests.{taken, by-test}
 use Rattle.text.proofs.Cuts.{rest-last, rest-more, rest-bound}
 use Rattle.text.proofs.Parts.{part-of-part}
 use Rattle.container_layout.specs.Mo.{pieceAt, segment, segments}
-use Rattle.container_layout.specs.declared.Stretch.the-variants.{At}
+use Rattle.text.specs.declared.Stretch.the-variants.{At}
 
 -- the k-th of the pieces ps of s, the first of which starts at from
 pub record Holds (s : List ℕ) (from k : ℕ) (ps : List (List ℕ)) : Type 0 where

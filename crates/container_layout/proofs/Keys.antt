@@ -13,8 +13,8 @@ use Rattle.text.proofs.Tests.{taken, left, by-test}
 use Rattle.text.proofs.Walk.{rest-at}
 use Rattle.container_layout.specs.Mo.{string, original, hasContext, contextEnd, idStart, idEnd, context, id, key, ended, keyed, translated, entry}
 use Rattle.container_layout.specs.declared.Tables.{Tables}
-use Rattle.container_layout.specs.declared.Stretch.{Stretch}
-use Rattle.container_layout.specs.declared.Stretch.the-variants as stretch
+use Rattle.text.specs.declared.Stretch.{Stretch}
+use Rattle.text.specs.declared.Stretch.the-variants as stretch
 use Rattle.container_layout.specs.declared.Entry.the-variants.{At, NoEntry}
 use Rattle.container_layout.proofs.Marks.{stops}
 use Rattle.container_layout.proofs.Cells.{string-told}
@@ -80,8 +80,8 @@ of-key s (stretch.At c l) y {a} {k} {b} {m} n e =
         let p : c ≡ a = cc in
         let q : idEnd (original s c l) ≡ k = cc in
         rw (← p, ← q) (record { size = l; inside = n c l refl; is = key-part s c l (n c l refl) t })
-    told stretch.Outside f t = absurd (never-entry f)
-of-key s stretch.Outside y n e = absurd (never-entry e)
+    told stretch.Absent f t = absurd (never-entry f)
+of-key s stretch.Absent y n e = absurd (never-entry e)
 
 pub entry-key : (s : List ℕ) (t : Tables) (i : ℕ) {a k b m : ℕ} → entry s t i ≡ At a k b m → Keyed s a k
 unfolding entry

@@ -13,8 +13,8 @@ use Rattle.text.specs.Cut.{cut}
 use Rattle.text.proofs.Tests.{taken, left, by-test}
 use Rattle.text.proofs.Cuts.{rest-last, rest-more, rest-bound}
 use Rattle.container_layout.specs.Mo.{pieceAt, segment}
-use Rattle.container_layout.specs.declared.Stretch.{Stretch}
-use Rattle.container_layout.specs.declared.Stretch.the-variants.{At, Outside}
+use Rattle.text.specs.declared.Stretch.{Stretch}
+use Rattle.text.specs.declared.Stretch.the-variants.{At, Absent}
 
 -- one piece is passed over
 skipped : (at k : ℕ) (p : List ℕ) (ps : List (List ℕ)) → (k ≡ 0 → ⊥) → (n : ℕ) → at + length p + 1 ≡ n → pieceAt at k (p ∷ ps) ≡ pieceAt n (k - 1) ps
@@ -22,7 +22,7 @@ unfolding pieceAt
 skipped at zero p ps z n e = absurd (z refl)
 skipped at (suc k) p ps z n e = let q : suc k - 1 ≡ k = omega arith in rw (q, e)
 
-pub past : (at k : ℕ) (p : List ℕ) → (k ≡ 0 → ⊥) → pieceAt at k (p ∷ []) ≡ Outside
+pub past : (at k : ℕ) (p : List ℕ) → (k ≡ 0 → ⊥) → pieceAt at k (p ∷ []) ≡ Absent
 unfolding pieceAt
 past at zero p z = absurd (z refl)
 past at (suc k) p z = refl
@@ -46,14 +46,14 @@ module _ (t : List ℕ) (start form : ℕ) where
         (λ q. sym (m ∙ rw (z, rest-more 0 t at end e (ltb-true _ _ q), piece-length)))
         (λ q. sym (m ∙ rw (z, rest-last 0 t at end e i (ltb-false _ _ q), piece-length)))
 
-    pub sought-none : (left ≡ 0 → ⊥) → length t ≤ end → Outside ≡ pieceAt start form (cut 0 t)
+    pub sought-none : (left ≡ 0 → ⊥) → length t ≤ end → Absent ≡ pieceAt start form (cut 0 t)
     sought-none z h = sym (m ∙ ap (pieceAt (start + at) left) (rest-last 0 t at end e i h) ∙ past (start + at) left _ z)
 
     pub sought-on : (left ≡ 0 → ⊥) → end < length t → Sought (left - 1) (end + 1)
     sought-on z h = m ∙ ap (pieceAt (start + at) left) (rest-more 0 t at end e h) ∙ skipped (start + at) left _ _ z (start + (end + 1)) (omega (arith, piece-length))
 
 module _ (s : List ℕ) (start len form : ℕ) where
-  pub segment-out : length s < start + len → Outside ≡ segment s start len form
+  pub segment-out : length s < start + len → Absent ≡ segment s start len form
   unfolding segment
   segment-out h = sym (left _ _ (lt-leb (start + len) (length s) h))
 

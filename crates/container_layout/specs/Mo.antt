@@ -8,8 +8,8 @@ use lib.Dec.{leb, ltb}
 use Rattle.text.specs.Bytes.{place}
 use Rattle.text.specs.Cut.{cut}
 use Rattle.container_layout.specs.declared.Tables.{Tables}
-use Rattle.container_layout.specs.declared.Stretch.{Stretch}
-use Rattle.container_layout.specs.declared.Stretch.the-variants as stretch
+use Rattle.text.specs.declared.Stretch.{Stretch}
+use Rattle.text.specs.declared.Stretch.the-variants as stretch
 use Rattle.container_layout.specs.declared.Entry.{Entry}
 use Rattle.container_layout.specs.declared.Entry.the-variants as entries
 
@@ -31,7 +31,7 @@ abbrev pub hasString : List ℕ → ℕ → ℕ → Bool
 hasString s start len = leb (start + len + 1) (length s)
 
 abbrev pub within : List ℕ → ℕ → ℕ → Stretch
-within s start len = elim (hasString s start len) [ true ↦ stretch.At start len | false ↦ stretch.Outside ]
+within s start len = elim (hasString s start len) [ true ↦ stretch.At start len | false ↦ stretch.Absent ]
 
 -- the string that the cell of index i names
 unfoldable pub string : Bool → List ℕ → ℕ → ℕ → Stretch
@@ -39,7 +39,7 @@ unfolding word
 string big s table i =
     elim (hasCell s table i) [
       | true ↦ within s (word big s (table + 8 * i + 4)) (word big s (table + 8 * i))
-      | false ↦ stretch.Outside
+      | false ↦ stretch.Absent
     ]
 
 -- an original is its string and the byte after it
@@ -80,12 +80,12 @@ key o = take (idEnd o) o
 -- the entry of index i: where its key and its translation lie
 abbrev pub translated : Stretch → ℕ → ℕ → Entry
 translated (stretch.At start len) a k = entries.At a k start len
-translated stretch.Outside a k = entries.NoEntry
+translated stretch.Absent a k = entries.NoEntry
 
 abbrev pub keyed : List ℕ → Stretch → Stretch → Entry
 keyed s (stretch.At start len) t =
     elim (ended (original s start len)) [ true ↦ translated t start (idEnd (original s start len)) | false ↦ entries.NoEntry ]
-keyed s stretch.Outside t = entries.NoEntry
+keyed s stretch.Absent t = entries.NoEntry
 
 unfoldable pub entry : List ℕ → Tables → ℕ → Entry
 unfolding string idEnd
@@ -93,7 +93,7 @@ entry s t i = keyed s (string (t .big) s (t .originals) i) (string (t .big) s (t
 
 -- the segments of a translation are its bytes cut at each NUL; the place of the k-th of pieces that start at a place
 unfoldable pub pieceAt : ℕ → ℕ → List (List ℕ) → Stretch
-pieceAt at k [] = stretch.Outside
+pieceAt at k [] = stretch.Absent
 pieceAt at zero (p ∷ ps) = stretch.At at (length p)
 pieceAt at (suc k) (p ∷ ps) = pieceAt (at + length p + 1) k ps
 
@@ -103,4 +103,4 @@ segments s start len = cut 0 (take len (drop start s))
 unfoldable pub segment : List ℕ → ℕ → ℕ → ℕ → Stretch
 unfolding pieceAt cut
 segment s start len form =
-    elim (leb (start + len) (length s)) [ true ↦ pieceAt start form (segments s start len) | false ↦ stretch.Outside ]
+    elim (leb (start + len) (length s)) [ true ↦ pieceAt start form (segments s start len) | false ↦ stretch.Absent ]

@@ -1,5 +1,6 @@
 // The layout of an MO file: its words, its cells and strings, and the key, the translation and the segments of an entry, as places in it.
 // From parser.rs: the readers of a word, and what `parse_catalog` reads of an entry. Nothing is copied.
+use text::Stretch;
 ghost use mathlib.Core.Path.{_≡_};
 ghost use Prim.Native.Nat.{_+_, _<_, _≤_};
 ghost use lib.ListN.{length};
@@ -17,12 +18,6 @@ pub struct Tables {
     pub count: u32,
     pub originals: u32,
     pub translations: u32,
-}
-
-// A part of the file, or none.
-pub enum Stretch {
-    At(usize, usize),
-    Outside,
 }
 
 // Where an entry's key lies, and its translation.
@@ -65,7 +60,7 @@ fn cell_at(file: &[u8], at: usize, big: bool) -> Stretch
     let start = wide(read_u32(file, at + 4, big));
     // the byte after the string is counted in; two words of 32 bits and 1 do not overflow
     if file.len() < start + len + 1 {
-        return Stretch::Outside;
+        return Stretch::Absent;
     }
     Stretch::At(start, len)
 }
@@ -76,14 +71,14 @@ pub fn string_at(file: &[u8], big: bool, table: u32, i: usize) -> Stretch
 {
     let start = wide(table);
     if file.len() < start {
-        return Stretch::Outside;
+        return Stretch::Absent;
     }
     let left = file.len() - start;
     if left < 8 {
-        return Stretch::Outside;
+        return Stretch::Absent;
     }
     if (left - 8) / 8 < i {
-        return Stretch::Outside;
+        return Stretch::Absent;
     }
     cell_at(file, start + 8 * i, big)
 }
@@ -190,7 +185,7 @@ fn segment_in(translation: &[u8], start: usize, form: u64) -> Stretch
             return Stretch::At(start + at, end - at);
         }
         if translation.len() <= end {
-            return Stretch::Outside;
+            return Stretch::Absent;
         }
         left -= 1;
         at = end + 1;
@@ -202,10 +197,10 @@ pub fn segment_at(file: &[u8], start: usize, len: usize, form: u64) -> Stretch
     ensures { λ r. ⌜ r ≡ segment (now (file .entry)) start len form ⌝ }
 {
     if file.len() < start {
-        return Stretch::Outside;
+        return Stretch::Absent;
     }
     if file.len() - start < len {
-        return Stretch::Outside;
+        return Stretch::Absent;
     }
     let end = start + len;
     segment_in(&file[start..end], start, form)

@@ -14,8 +14,8 @@ use Rattle.refusal.specs.declared.Error.{Error}
 use Rattle.refusal.specs.declared.Error.the-variants.{Eof, DecodingError, MisplacedMetadata}
 use Rattle.container_layout.specs.Mo.{string, original, context, id, ended, segments}
 use Rattle.container_layout.specs.declared.Tables.{Tables}
-use Rattle.container_layout.specs.declared.Stretch.{Stretch}
-use Rattle.container_layout.specs.declared.Stretch.the-variants as stretch
+use Rattle.text.specs.declared.Stretch.{Stretch}
+use Rattle.text.specs.declared.Stretch.the-variants as stretch
 use Rattle.container_messages.specs.Messages.{identified, originalOf, originalIn, translationIn, joined, readAt}
 use Rattle.container_messages.specs.declared.Original.{Original}
 use Rattle.container_messages.specs.declared.Original.the-variants as original
@@ -84,8 +84,8 @@ module _ (s : List ℕ) (t : Tables) (i : ℕ) where
   -- the facts, from an entry that is not refused
   by-strings : (u v : Stretch) → string (t .big) s (t .originals) i ≡ u → string (t .big) s (t .translations) i ≡ v
       → ((x : Refusal) → joined i (originalIn s i u) (translationIn s v) ≡ read.Refused x → ⊥) → Good s t i
-  by-strings stretch.Outside v e f n = absurd (n _ refl)
-  by-strings (stretch.At a l) stretch.Outside e f n = absurd (kept-translation i s stretch.Outside (originalIn s i (stretch.At a l)) n Eof refl)
+  by-strings stretch.Absent v e f n = absurd (n _ refl)
+  by-strings (stretch.At a l) stretch.Absent e f n = absurd (kept-translation i s stretch.Absent (originalIn s i (stretch.At a l)) n Eof refl)
   by-strings (stretch.At a l) (stretch.At b m) e f n =
       let p = passed (utf8 (context (original s a l))) (ended (original s a l)) (utf8 (id (original s a l))) (identified i (id (original s a l)))
       (as-ladder i (original s a l) (kept-original i (originalOf i (original s a l)) (translationIn s (stretch.At b m)) n)) in

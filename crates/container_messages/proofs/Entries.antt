@@ -12,8 +12,8 @@ use Rattle.text.specs.Cut.{every}
 use Rattle.text.proofs.Tests.{taken, left, by-test}
 use Rattle.container_layout.specs.Mo.{string, original, context, id, idEnd, ended, segments, translated, keyed, entry}
 use Rattle.container_layout.specs.declared.Tables.{Tables}
-use Rattle.container_layout.specs.declared.Stretch.{Stretch}
-use Rattle.container_layout.specs.declared.Stretch.the-variants as stretch
+use Rattle.text.specs.declared.Stretch.{Stretch}
+use Rattle.text.specs.declared.Stretch.the-variants as stretch
 use Rattle.container_layout.specs.declared.Entry.{Entry}
 use Rattle.container_layout.specs.declared.Entry.the-variants as entries
 use Rattle.container_layout.proofs.Cells.{string-told}
@@ -42,7 +42,7 @@ translation-at s (stretch.At b m) {a} {l} e =
     by-test (stretch.At b m ≡ stretch.At a l) (every utf8 (segments s b m))
     (λ t. let q : translation.At b m ≡ translation.At a l = sym (taken _ _ t) ∙ e in let x : b ≡ a = cc in let y : m ≡ l = cc in rw (x, y))
     (λ t. let q : translation.Refused DecodingError ≡ translation.At a l = sym (left _ _ t) ∙ e in absurd (let z : _≡_ {A = ℕ} 0 1 = cc in omega arith))
-translation-at s stretch.Outside e = absurd (let z : _≡_ {A = ℕ} 0 1 = cc in omega arith)
+translation-at s stretch.Absent e = absurd (let z : _≡_ {A = ℕ} 0 1 = cc in omega arith)
 
 identified-empty : (i : ℕ) (l : List ℕ) → identified i l ≡ original.Empty → i ≡ 0
 identified-empty i [] e =
@@ -73,7 +73,7 @@ empty-first : (s : List ℕ) (i : ℕ) (z : Stretch) → originalIn s i z ≡ or
 empty-first s i (stretch.At a l) e =
     identified-empty i (id (original s a l))
     (original-passed i (original s a l) e (λ x q. let z : _≡_ {A = ℕ} 0 1 = cc in omega arith) .is)
-empty-first s i stretch.Outside e = absurd (let z : _≡_ {A = ℕ} 0 1 = cc in omega arith)
+empty-first s i stretch.Absent e = absurd (let z : _≡_ {A = ℕ} 0 1 = cc in omega arith)
 
 module _ (s : List ℕ) (t : Tables) where
   pub header-inside : (i : ℕ) {a l : ℕ} → readAt s t i ≡ read.Header a l → a + l + 1 ≤ length s
@@ -136,7 +136,7 @@ keyed-entry s i (stretch.At a l) v h =
       size = h .len;
       is = taken _ _ (p .ends) ∙ ap (λ (z : Stretch). translated z a (idEnd (original s a l))) (translation-at s v (h .at));
     }
-keyed-entry s i stretch.Outside v h = absurd (h .kept Eof refl)
+keyed-entry s i stretch.Absent v h = absurd (h .kept Eof refl)
 
 pub read-entry : (s : List ℕ) (t : Tables) (i : ℕ) → ((z : Refusal) → readAt s t i ≡ read.Refused z → ⊥) → IsEntry (entry s t i)
 unfolding readAt entry
@@ -174,7 +174,7 @@ keyed-right s (stretch.At c l) v h {a} {n} {b} {m} e =
     (λ t.
     let q : entries.NoEntry ≡ entries.At a n b m = sym (left (translated v c (idEnd (original s c l))) entries.NoEntry t) ∙ e in
     absurd (let z : _≡_ {A = ℕ} 0 1 = cc in omega arith))
-keyed-right s stretch.Outside v h e = absurd (let z : _≡_ {A = ℕ} 0 1 = cc in omega arith)
+keyed-right s stretch.Absent v h e = absurd (let z : _≡_ {A = ℕ} 0 1 = cc in omega arith)
 
 pub read-right : (s : List ℕ) (t : Tables) (i : ℕ) → ((z : Refusal) → readAt s t i ≡ read.Refused z → ⊥) → {a n c m : ℕ}
     → entry s t i ≡ entries.At a n c m → every utf8 (segments s c m) ≡ true

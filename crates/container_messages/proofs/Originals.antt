@@ -14,8 +14,8 @@ use Rattle.text.proofs.Tests.{taken, left, by-test}
 use Rattle.text_utf8.proofs.Texts.{right-by-pieces}
 use Rattle.text.proofs.Cuts.{place-length}
 use Rattle.container_layout.specs.Mo.{string, contextEnd, idStart, idEnd, hasContext, context, id, segments}
-use Rattle.container_layout.specs.declared.Stretch.{Stretch}
-use Rattle.container_layout.specs.declared.Stretch.the-variants as stretch
+use Rattle.text.specs.declared.Stretch.{Stretch}
+use Rattle.text.specs.declared.Stretch.the-variants as stretch
 use Rattle.container_layout.proofs.Cells.{string-told}
 use Rattle.container_layout.specs.Promise.{Splits}
 use Rattle.container_layout.specs.declared.Parts.{Parts}
@@ -113,10 +113,10 @@ module _ (i : ℕ) (o : List ℕ) {p : Parts} (g : Splits o p) where
 
 -- in the file
 module _ (big : Bool) (s : List ℕ) (table i : ℕ) {x : Stretch} (e : x ≡ string big s table i) where
-  pub original-out : x ≡ stretch.Outside → Refused Eof ≡ originalIn s i (string big s table i)
+  pub original-out : x ≡ stretch.Absent → Refused Eof ≡ originalIn s i (string big s table i)
   original-out f = rw (← e, f)
 
-  pub translation-out : x ≡ stretch.Outside → translation.Refused Eof ≡ translationIn s (string big s table i)
+  pub translation-out : x ≡ stretch.Absent → translation.Refused Eof ≡ translationIn s (string big s table i)
   translation-out f = rw (← e, f)
 
   module _ {a l : ℕ} (f : x ≡ stretch.At a l) where

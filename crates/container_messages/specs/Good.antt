@@ -7,7 +7,7 @@ use Rattle.text.specs.Cut.{every}
 use Rattle.text_utf8.specs.Utf8.{utf8}
 use Rattle.container_layout.specs.Mo.{string, original, context, id, ended, segments}
 use Rattle.container_layout.specs.declared.Tables.{Tables}
-use Rattle.container_layout.specs.declared.Stretch.the-variants as stretch
+use Rattle.text.specs.declared.Stretch.the-variants as stretch
 
 -- entry i: both strings lie in the file, the context, the id and every segment are UTF-8, a NUL ends the id, and it is empty in
 -- entry 0 alone

@@ -7,8 +7,8 @@ use Rattle.text_utf8.specs.Utf8.{utf8}
 use Rattle.text.specs.Cut.{every}
 use Rattle.container_layout.specs.Mo.{string, original, context, id, ended, segments}
 use Rattle.container_layout.specs.declared.Tables.{Tables}
-use Rattle.container_layout.specs.declared.Stretch.{Stretch}
-use Rattle.container_layout.specs.declared.Stretch.the-variants as stretch
+use Rattle.text.specs.declared.Stretch.{Stretch}
+use Rattle.text.specs.declared.Stretch.the-variants as stretch
 use Rattle.refusal.specs.Places.{at}
 use Rattle.refusal.specs.declared.Error.{Error}
 use Rattle.refusal.specs.declared.Error.the-variants.{Eof, DecodingError, MisplacedMetadata}
@@ -39,13 +39,13 @@ originalOf i o =
 
 abbrev pub originalIn : List ℕ → ℕ → Stretch → Original
 originalIn s i (stretch.At start len) = originalOf i (original s start len)
-originalIn s i stretch.Outside = original.Refused Eof
+originalIn s i stretch.Absent = original.Refused Eof
 
 -- 5. a translation; the byte after it is not looked at
 abbrev pub translationIn : List ℕ → Stretch → Translation
 translationIn s (stretch.At start len) =
     elim (every utf8 (segments s start len)) [ true ↦ translation.At start len | false ↦ translation.Refused DecodingError ]
-translationIn s stretch.Outside = translation.Refused Eof
+translationIn s stretch.Absent = translation.Refused Eof
 
 -- entry i: a refused original counts before a refused translation, the header's too
 abbrev pub refusedOn : ℕ → Side → Error → Read

@@ -6,12 +6,12 @@ ghost use lib.ListN.{length, take, drop};
 ghost use Rattle.text_utf8.specs.Utf8.{utf8};
 ghost use Rattle.container_layout.specs.Mo.{string};
 ghost use Rattle.container_messages.specs.Messages.{originalOf, originalIn, translationIn, refusedOn, joined, readAt};
-use container_layout::Stretch;
 use container_layout::Tables;
 use refusal::Error;
 use refusal::Refusal;
 use refusal::Side;
 use refusal::Where;
+use text::Stretch;
 
 // An original with an id, or with an empty one.
 enum Original {

@@ -5,8 +5,8 @@ use mathlib.Core.Bool.{Bool, true, false, _||_}
 use mathlib.Core.List.{List}
 use native.Mathlib.Omega.{arith}
 use lib.ListN.{length}
-use Rattle.header_fields.specs.declared.Place.the-variants.{Absent}
-use Rattle.header_fields.specs.declared.Place.{Place}
+use Rattle.text.specs.declared.Stretch.the-variants.{Absent}
+use Rattle.text.specs.declared.Stretch.{Stretch}
 use Rattle.header.specs.Header.{metadata}
 use Rattle.header.specs.declared.Metadata.{Metadata}
 use Rattle.header.specs.declared.Metadata.the-variants.{Malformed, Fields}
@@ -64,10 +64,10 @@ pub header-fits : (s : List ℕ) (t : Tables) {q : Read} {a l : ℕ} → q ≡ r
 header-fits s t e f = omega (arith, header-inside s t 0 (sym e ∙ f))
 
 -- where entry 0 goes on, the count beside its rule is the file's
-gone : {e : Refusal} {p : Place} {n : Forms} {A : Type 0} → first.Refused e ≡ first.Rule p n → A
+gone : {e : Refusal} {p : Stretch} {n : Forms} {A : Type 0} → first.Refused e ≡ first.Rule p n → A
 gone e = absurd (let z : _≡_ {A = ℕ} 0 1 = cc in omega arith)
 
-module _ (forced utf8 : Bool) (s : List ℕ) (t : Tables) {p : Place} {n : Forms} where
+module _ (forced utf8 : Bool) (s : List ℕ) (t : Tables) {p : Stretch} {n : Forms} where
   headed-forms : (k : ℕ) (h : List ℕ) (m : Metadata) → shifted k (headed forced utf8 h m) ≡ first.Rule p n → n ≡ countOf m
   headed-forms k h Malformed e = gone e
   headed-forms k h (Fields label q x) e =

@@ -14,8 +14,8 @@ use Rattle.text.proofs.Tests.{taken, left, by-test}
 use Rattle.text.proofs.Cuts.{cut-first, cut-whole, place-length}
 use Rattle.header_fields.specs.Fields.{shift}
 use Rattle.header_fields.specs.Promise.{startOf, endOf}
-use Rattle.header_fields.specs.declared.Place.{Place}
-use Rattle.header_fields.specs.declared.Place.the-variants.{At, Absent}
+use Rattle.text.specs.declared.Stretch.{Stretch}
+use Rattle.text.specs.declared.Stretch.the-variants.{At, Absent}
 use Rattle.header.specs.Header.{metadata, utf8Label}
 use Rattle.header.specs.declared.Metadata.{Metadata}
 use Rattle.header.specs.declared.Metadata.the-variants.{Malformed, Fields}
@@ -30,7 +30,7 @@ use Rattle.container_rule.specs.declared.First.{First}
 use Rattle.container_rule.specs.declared.First.the-variants.{Rule, Refused}
 
 -- a label at a place
-pub label-fits : {p : Place} {a l : ℕ} (n : ℕ) → p ≡ At a l → endOf p ≤ n → a + l ≤ n
+pub label-fits : {p : Stretch} {a l : ℕ} (n : ℕ) → p ≡ At a l → endOf p ≤ n → a + l ≤ n
 label-fits n e h = rw e at h
 
 or-first : {u : Bool} (k : Bool) → u ≡ true → true ≡ (u || k)
@@ -39,13 +39,13 @@ or-first k e = rw e
 or-second : {u k r : Bool} → u ≡ false → r ≡ k → r ≡ (u || k)
 or-second e f = rw e f
 
-pub utf8-forced : (h : List ℕ) (p : Place) {u : Bool} → u ≡ true → true ≡ (u || labelOk h p)
+pub utf8-forced : (h : List ℕ) (p : Stretch) {u : Bool} → u ≡ true → true ≡ (u || labelOk h p)
 utf8-forced h p e = or-first (labelOk h p) e
 
-pub label-there : (h : List ℕ) {p : Place} {a l : ℕ} {u r : Bool} → u ≡ false → p ≡ At a l → r ≡ utf8Label (take (a + l - a) (drop a h)) → r ≡ (u || labelOk h p)
+pub label-there : (h : List ℕ) {p : Stretch} {a l : ℕ} {u r : Bool} → u ≡ false → p ≡ At a l → r ≡ utf8Label (take (a + l - a) (drop a h)) → r ≡ (u || labelOk h p)
 label-there h {p} {a} {l} e f g = let z : a + l - a ≡ l = omega arith in or-second e (rw (f, ← z) g)
 
-pub label-absent : (h : List ℕ) {p : Place} {u : Bool} → u ≡ false → p ≡ Absent → true ≡ (u || labelOk h p)
+pub label-absent : (h : List ℕ) {p : Stretch} {u : Bool} → u ≡ false → p ≡ Absent → true ≡ (u || labelOk h p)
 label-absent h e f = or-second e (rw f)
 
 -- where the rule lies
@@ -54,7 +54,7 @@ module _ (forced utf8 : Bool) (h : List ℕ) {m : Metadata} (e : m ≡ metadata 
   unfolding ruleAt
   malformed f = rw (← e, f)
 
-  module _ {p q : Place} {n : Forms} (f : m ≡ Fields p q n) where
+  module _ {p q : Stretch} {n : Forms} (f : m ≡ Fields p q n) where
     pub inside : Inside h p q
     inside = fields-end h (sym e ∙ f)
 
@@ -67,10 +67,10 @@ module _ (forced utf8 : Bool) (h : List ℕ) {m : Metadata} (e : m ≡ metadata 
       unknown t = sym (at-fields ∙ left _ _ (sym g ∙ t))
 
       pub rule-forced : k ≡ true → forced ≡ true → Rule Absent n ≡ ruleAt forced utf8 h
-      rule-forced t u = sym (at-fields ∙ taken _ _ (sym g ∙ t) ∙ ap (λ (x : Place). Rule x n) (taken _ _ u))
+      rule-forced t u = sym (at-fields ∙ taken _ _ (sym g ∙ t) ∙ ap (λ (x : Stretch). Rule x n) (taken _ _ u))
 
       pub rule-given : k ≡ true → forced ≡ false → Rule q n ≡ ruleAt forced utf8 h
-      rule-given t u = sym (at-fields ∙ taken _ _ (sym g ∙ t) ∙ ap (λ (x : Place). Rule x n) (left _ _ u))
+      rule-given t u = sym (at-fields ∙ taken _ _ (sym g ∙ t) ∙ ap (λ (x : Stretch). Rule x n) (left _ _ u))
 
 headed-end : (forced utf8 : Bool) (h : List ℕ) (m : Metadata) → metadata h ≡ m → endOfRule (headed forced utf8 h m) ≤ length h
 headed-end forced utf8 h Malformed e = omega arith
@@ -78,8 +78,8 @@ headed-end forced utf8 h (Fields p q n) e =
     by-test (endOfRule (headed forced utf8 h (Fields p q n)) ≤ length h) (utf8 || labelOk h p)
     (λ t.
     by-test (endOfRule (headed forced utf8 h (Fields p q n)) ≤ length h) forced
-    (λ u. let z : headed forced utf8 h (Fields p q n) ≡ Rule Absent n = taken _ _ t ∙ ap (λ (x : Place). Rule x n) (taken _ _ u) in rw z (omega arith))
-    (λ u. let z : headed forced utf8 h (Fields p q n) ≡ Rule q n = taken _ _ t ∙ ap (λ (x : Place). Rule x n) (left _ _ u) in rw z (fields-end h e .rule)))
+    (λ u. let z : headed forced utf8 h (Fields p q n) ≡ Rule Absent n = taken _ _ t ∙ ap (λ (x : Stretch). Rule x n) (taken _ _ u) in rw z (omega arith))
+    (λ u. let z : headed forced utf8 h (Fields p q n) ≡ Rule q n = taken _ _ t ∙ ap (λ (x : Stretch). Rule x n) (left _ _ u) in rw z (fields-end h e .rule)))
     (λ t. let z : headed forced utf8 h (Fields p q n) ≡ Refused (at inHeader UnknownEncoding) = left _ _ t in rw z (omega arith))
 
 pub rule-ends : (forced utf8 : Bool) (h : List ℕ) → endOfRule (ruleAt forced utf8 h) ≤ length h
@@ -87,14 +87,14 @@ unfolding ruleAt
 rule-ends forced utf8 h = headed-end forced utf8 h (metadata h) refl
 
 -- a place that is counted from k bytes earlier
-start-first : (k : ℕ) (q : Place) → k + endOf q < 2 ^ 64 → k + startOf q < 2 ^ 64
+start-first : (k : ℕ) (q : Stretch) → k + endOf q < 2 ^ 64 → k + startOf q < 2 ^ 64
 start-first k (At a l) h = omega arith
 start-first k Absent h = omega arith
 
-pub rule-moves : (k : ℕ) {f : First} {q : Place} {n : Forms} → f ≡ Rule q n → k + endOfRule f < 2 ^ 64 → k + startOf q < 2 ^ 64
+pub rule-moves : (k : ℕ) {f : First} {q : Stretch} {n : Forms} → f ≡ Rule q n → k + endOfRule f < 2 ^ 64 → k + startOf q < 2 ^ 64
 rule-moves k {f} {q} e h = let z : k + endOf q < 2 ^ 64 = rw e at h in start-first k q z
 
-pub rule-moved : (k : ℕ) {f : First} {p q : Place} {n : Forms} → f ≡ Rule p n → q ≡ shift k p → Rule q n ≡ shifted k f
+pub rule-moved : (k : ℕ) {f : First} {p q : Stretch} {n : Forms} → f ≡ Rule p n → q ≡ shift k p → Rule q n ≡ shifted k f
 rule-moved k e g = rw (e, g)
 
 -- segment 0: up to the first NUL

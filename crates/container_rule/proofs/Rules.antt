@@ -16,8 +16,8 @@ use Rattle.rules.specs.Pack.{packedSize, packed}
 use Rattle.reading_rule.specs.Plurals.{rule, norule, parsed, Parses}
 use Rattle.reading_rule.specs.declared.Reading.{Reading}
 use Rattle.reading_rule.specs.declared.Parsed.{Parsed}
-use Rattle.header_fields.specs.declared.Place.{Place}
-use Rattle.header_fields.specs.declared.Place.the-variants.{At, Absent}
+use Rattle.text.specs.declared.Stretch.{Stretch}
+use Rattle.text.specs.declared.Stretch.the-variants.{At, Absent}
 use Rattle.header_forms.specs.declared.Forms.{Forms}
 use Rattle.container_rule.specs.Rule.{forcedRule, ruleIn}
 use Rattle.container_rule.specs.Promise.{endOfRule, Chosen, Chooses}
@@ -37,14 +37,14 @@ module _ (forced : Bool) (reading : Reading) (s : List ℕ) {Q : Pool} {r : Pars
   none-forced e g = let z : forcedRule forced reading s ≡ rule defaultTree = left _ _ e in rw z g
 
 -- the header's rule takes the place of the one before
-pub rule-end : {f : First} {p : Place} {m : Forms} {a l : ℕ} → f ≡ first.Rule p m → p ≡ At a l → (n : ℕ) → endOfRule f ≤ n → a + l ≤ n
+pub rule-end : {f : First} {p : Stretch} {m : Forms} {a l : ℕ} → f ≡ first.Rule p m → p ≡ At a l → (n : ℕ) → endOfRule f ≤ n → a + l ≤ n
 rule-end e g n h = rw (e, g) at h
 
 module _ (reading : Reading) (s : List ℕ) {f : First} {k : ℕ} {P Q : Pool} where
-  pub rule-there : {p : Place} {m : Forms} {a l : ℕ} {r : Parsed} → f ≡ first.Rule p m → p ≡ At a l → Parses (parsed inRule reading (take (a + l - a) (drop a s))) Q r → Chooses reading s f k P Q r
+  pub rule-there : {p : Stretch} {m : Forms} {a l : ℕ} {r : Parsed} → f ≡ first.Rule p m → p ≡ At a l → Parses (parsed inRule reading (take (a + l - a) (drop a s))) Q r → Chooses reading s f k P Q r
   rule-there {p} {m} {a} {l} e d g = let z : a + l - a ≡ l = omega arith in record { chosen = rw (e, d, ← z) g }
 
-  pub rule-absent : {p : Place} {m : Forms} → f ≡ first.Rule p m → p ≡ Absent → Q ≡ P → Chooses reading s f k P Q (record { outcome = outcome.Loaded; nodes = k })
+  pub rule-absent : {p : Stretch} {m : Forms} → f ≡ first.Rule p m → p ≡ Absent → Q ≡ P → Chooses reading s f k P Q (record { outcome = outcome.Loaded; nodes = k })
   rule-absent e d g = record { chosen = rw (e, d) (refl, g) }
 
   pub rule-refused : {x : Refusal} {r : Parsed} → f ≡ first.Refused x → Parses (norule x) Q r → Chooses reading s f k P Q r

@@ -12,7 +12,7 @@ use Rattle.rules.specs.Pool.{Pool, pool}
 use Rattle.reading_rule.specs.declared.Reading.{Reading}
 use Rattle.reading_rule.specs.declared.Parsed.{Parsed}
 use Rattle.reading_rule.proofs.Unique.{parses-one}
-use Rattle.header_fields.specs.declared.Place.the-variants.{At, Absent}
+use Rattle.text.specs.declared.Stretch.the-variants.{At, Absent}
 use Rattle.container_rule.specs.Promise.{Chosen, Chooses}
 use Rattle.container_rule.specs.declared.First.{First}
 use Rattle.container_rule.specs.declared.First.the-variants as first

@@ -10,7 +10,7 @@ use Rattle.reading_rule.specs.Plurals.{norule, parsed, Parses}
 use Rattle.reading_rule.specs.declared.Reading.{Reading}
 use Rattle.reading_rule.specs.declared.Parsed.{Parsed}
 use Rattle.header_fields.specs.Promise.{endOf}
-use Rattle.header_fields.specs.declared.Place.the-variants.{At, Absent}
+use Rattle.text.specs.declared.Stretch.the-variants.{At, Absent}
 use Rattle.header_forms.specs.declared.Forms.{Forms}
 use Rattle.header_forms.specs.declared.Forms.the-variants as forms
 use Rattle.container_rule.specs.declared.First.{First}

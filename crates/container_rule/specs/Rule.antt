@@ -11,8 +11,8 @@ use Rattle.rules.specs.Tree.{Tree, defaultTree}
 use Rattle.reading_rule.specs.Plurals.{Parse, rule, norule, parsed}
 use Rattle.reading_rule.specs.declared.Reading.{Reading}
 use Rattle.header_fields.specs.Fields.{shift}
-use Rattle.header_fields.specs.declared.Place.{Place}
-use Rattle.header_fields.specs.declared.Place.the-variants.{At, Absent}
+use Rattle.text.specs.declared.Stretch.{Stretch}
+use Rattle.text.specs.declared.Stretch.the-variants.{At, Absent}
 use Rattle.header.specs.Header.{metadata, utf8Label}
 use Rattle.header.specs.declared.Metadata.{Metadata}
 use Rattle.header.specs.declared.Metadata.the-variants as metadata
@@ -31,7 +31,7 @@ abbrev pub forcedRule : Bool → Reading → List ℕ → Parse
 forcedRule forced reading f = elim forced [ true ↦ parsed Forced reading f | false ↦ rule defaultTree ]
 
 -- 6. the charset label, if there is one
-abbrev pub labelOk : List ℕ → Place → Bool
+abbrev pub labelOk : List ℕ → Stretch → Bool
 labelOk h (At start len) = utf8Label (take len (drop start h))
 labelOk h Absent = true
 

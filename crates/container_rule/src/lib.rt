@@ -4,7 +4,6 @@
 use container_layout::Tables;
 use container_messages::Read;
 use header::Metadata;
-use header_fields::Place;
 use header_forms::Forms;
 use reading_rule::Parsed;
 use reading_rule::Reading;
@@ -13,6 +12,7 @@ use refusal::Outcome;
 use refusal::Refusal;
 use refusal::Side;
 use refusal::Where;
+use text::Stretch;
 ghost use mathlib.Core.Path.{_≡_};
 ghost use mathlib.Core.Bool.{_||_};
 ghost use Prim.Native.Nat.{_+_, _^_, _<_, _≤_};
@@ -26,7 +26,7 @@ ghost use Rattle.container_rule.specs.Promise.{endOfRule, formsOf, Choos
 
 // Where the header's rule lies that is to be read, if any, and the count of forms; or why the load ends.
 pub enum First {
-    Rule(Place, Forms),
+    Rule(Stretch, Forms),
     Refused(Refusal),
 }
 
@@ -38,7 +38,7 @@ fn refused(e: Error) -> First
 }
 
 // UTF-8 is forced, or the label is one of UTF-8's, or there is none.
-fn is_known(h: &[u8], label: Place, utf8: bool) -> bool
+fn is_known(h: &[u8], label: Stretch, utf8: bool) -> bool
     requires { ⌜ endOf label ≤ length (now h) ⌝ }
     ensures { λ r. ⌜ r ≡ (utf8 || labelOk (now (h .entry)) label) ⌝ }
 {
@@ -46,11 +46,11 @@ fn is_known(h: &[u8], label: Place, utf8: bool) -> bool
         return true;
     }
     match label {
-        Place::At(start, len) => {
+        Stretch::At(start, len) => {
             let end = start + len;
             header::is_utf8_label(&h[start..end])
         }
-        Place::Absent => true,
+        Stretch::Absent => true,
     }
 }
 
@@ -66,7 +66,7 @@ fn parse_header(h: &[u8], forced: bool, utf8: bool) -> First
         return refused(Error::UnknownEncoding);
     }
     if forced {
-        return First::Rule(Place::Absent, forms); // the forced one stands instead
+        return First::Rule(Stretch::Absent, forms); // the forced one stands instead
     }
     First::Rule(rule, forms)
 }
@@ -97,11 +97,11 @@ pub fn parse_first(file: &[u8], t: Tables, forced: bool, utf8: bool) -> First
     ensures { λ r. ⌜ r ≡ firstRule forced utf8 (now (file .entry)) t ⌝ }
 {
     if t.count == 0 {
-        return First::Rule(Place::Absent, Forms::Absent);
+        return First::Rule(Stretch::Absent, Forms::Absent);
     }
     let entry = container_messages::parse_entry(file, t, 0);
     match entry {
-        Read::Message => First::Rule(Place::Absent, Forms::Absent),
+        Read::Message => First::Rule(Stretch::Absent, Forms::Absent),
         Read::Header(start, len) => header_at(file, start, len, forced, utf8),
         Read::Refused(e) => First::Refused(e),
     }
@@ -155,7 +155,7 @@ pub fn rule_of(
 {
     match first {
         First::Rule(rule, forms) => match rule {
-            Place::At(start, len) => {
+            Stretch::At(start, len) => {
                 let rule_end = start + len;
                 let place = Where::Entry(0, Side::Rule);
                 reading_rule::parse(
@@ -167,7 +167,7 @@ pub fn rule_of(
                     values,
                 )
             }
-            Place::Absent => Parsed {
+            Stretch::Absent => Parsed {
                 outcome: Outcome::Loaded,
                 nodes: before,
             },

@@ -43,8 +43,8 @@ use Rattle.reading_rule.proofs.Meaning.{IsRule, standard-exactly}
 use Rattle.header_forms.specs.declared.Forms.{Forms}
 use Rattle.header_forms.specs.declared.Forms.the-variants.{Given, Absent}
 use Rattle.container_layout.specs.Mo.{segment, segments}
-use Rattle.container_layout.specs.declared.Stretch.{Stretch}
-use Rattle.container_layout.specs.declared.Stretch.the-variants as stretch
+use Rattle.text.specs.declared.Stretch.{Stretch}
+use Rattle.text.specs.declared.Stretch.the-variants as stretch
 use Rattle.container_layout.specs.declared.Tables.{Tables}
 use Rattle.lookup_scan.specs.Keys.{lastWith}
 use Rattle.lookup_scan.specs.declared.Hit.the-variants as hit
@@ -297,7 +297,7 @@ module _ (o : Options) (f s : List ℕ) {Q : Pool} {r : Loaded} (loads : Loads (
       -- the place is that of the entry's own translation
       by-stretch : {i form at size : ℕ} (y : Stretch) → bySegment i form y ≡ reason.Answered i form at size → y ≡ stretch.At at size
       by-stretch (stretch.At b m) e = cc
-      by-stretch stretch.Outside e = let z : _≡_ {A = ℕ} 0 1 = cc in absurd (omega arith)
+      by-stretch stretch.Absent e = let z : _≡_ {A = ℕ} 0 1 = cc in absurd (omega arith)
 
       placed : (key : List ℕ) {i start len x : ℕ} → resolvedOf Q (nodesIn (r .head)) (rootIn (r .head)) n ≡ resolved.Form x → lastWith s (tablesIn (r .head)) key ≡ hit.At i start len
           → (a : Names s (resolvedOf Q (nodesIn (r .head)) (rootIn (r .head)) n) i start len lo hi (counted s (r .head) Q key n)) → segment s start len x ≡ stretch.At (a .at) (a .size)

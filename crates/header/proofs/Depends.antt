@@ -12,8 +12,8 @@ use Rattle.text.specs.Bytes.{bytes}
 use Rattle.text.specs.Cut.{every}
 use Rattle.header_fields.specs.Fields.{shift, lines, lineOk}
 use Rattle.header_fields.specs.Promise.{endOf}
-use Rattle.header_fields.specs.declared.Place.{Place}
-use Rattle.header_fields.specs.declared.Place.the-variants.{At, Absent}
+use Rattle.text.specs.declared.Stretch.{Stretch}
+use Rattle.text.specs.declared.Stretch.the-variants.{At, Absent}
 use Rattle.header_forms.specs.Forms.{formCount, formsAt}
 use Rattle.header_forms.specs.declared.Forms.{Forms}
 use Rattle.header_forms.specs.declared.Forms.the-variants as forms
@@ -26,7 +26,7 @@ use Rattle.header.specs.declared.Metadata.the-variants.{Malformed, Field
 use Rattle.header.proofs.Parts.{part-end, field-end}
 
 -- the text at a place
-abbrev pub textAt : List ℕ → Place → Option (List ℕ)
+abbrev pub textAt : List ℕ → Stretch → Option (List ℕ)
 textAt s (At start len) = some (take len (drop start s))
 textAt s Absent = none
 
@@ -39,7 +39,7 @@ abbrev pub texts : List ℕ → Metadata → Texts
 texts h Malformed = malformed
 texts h (Fields label rule n) = fields (textAt h label) (textAt h rule) n
 
-inside : (s : List ℕ) (start len : ℕ) (p : Place) → start + len ≤ length s → endOf p ≤ len → textAt s (shift start p) ≡ textAt (take len (drop start s)) p
+inside : (s : List ℕ) (start len : ℕ) (p : Stretch) → start + len ≤ length s → endOf p ≤ len → textAt s (shift start p) ≡ textAt (take len (drop start s)) p
 inside s start len (At a n) h k = ap some (part-of-part s start len a n h k)
 inside s start len Absent h k = refl
 
@@ -48,7 +48,7 @@ pub soughtIn : Sought → Option (List ℕ) → Option (List ℕ)
 soughtIn k none = none
 soughtIn k (some v) = textAt v (partOf k v)
 
-sought-text : (k : Sought) (h : List ℕ) (p : Place) → endOf p ≤ length h → textAt h (within h p (partOf k)) ≡ soughtIn k (textAt h p)
+sought-text : (k : Sought) (h : List ℕ) (p : Stretch) → endOf p ≤ length h → textAt h (within h p (partOf k)) ≡ soughtIn k (textAt h p)
 unfolding soughtIn
 sought-text k h (At start len) l = inside h start len (partOf k (take len (drop start h))) l (omega (arith, part-end k (take len (drop start h)), length-take len (drop start h)))
 sought-text k h Absent l = refl
@@ -58,7 +58,7 @@ pub formsIn : Option (List ℕ) → Forms
 formsIn none = forms.Absent
 formsIn (some v) = formCount v
 
-forms-text : (h : List ℕ) (p : Place) → formsAt h p ≡ formsIn (textAt h p)
+forms-text : (h : List ℕ) (p : Stretch) → formsAt h p ≡ formsIn (textAt h p)
 unfolding formsIn
 forms-text h (At start len) = refl
 forms-text h Absent = refl

@@ -10,8 +10,8 @@ use Rattle.text.specs.Cut.{every}
 use Rattle.text.proofs.Tests.{taken, left, by-test}
 use Rattle.header_fields.specs.Fields.{lines, lineOk}
 use Rattle.header_fields.specs.Promise.{endOf}
-use Rattle.header_fields.specs.declared.Place.{Place}
-use Rattle.header_fields.specs.declared.Place.the-variants.{At, Absent}
+use Rattle.text.specs.declared.Stretch.{Stretch}
+use Rattle.text.specs.declared.Stretch.the-variants.{At, Absent}
 use Rattle.header_fields.proofs.Places.{shift-end}
 use Rattle.header_forms.specs.declared.Forms.{Forms}
 use Rattle.header.specs.Header.{within, field, metadata}
@@ -21,18 +21,18 @@ use Rattle.header.specs.declared.Sought.the-variants.{Charset, Plural}
 use Rattle.header.specs.declared.Metadata.the-variants.{Malformed, Fields}
 use Rattle.header.proofs.Parts.{part-end, field-end}
 
-within-end : (k : Sought) (h : List ℕ) (p : Place) → endOf p ≤ length h → endOf (within h p (partOf k)) ≤ length h
+within-end : (k : Sought) (h : List ℕ) (p : Stretch) → endOf p ≤ length h → endOf (within h p (partOf k)) ≤ length h
 within-end k h (At a l) e =
     shift-end a (length (take l (drop a h))) (length h) (partOf k (take l (drop a h))) (part-end k (take l (drop a h)))
     (omega (arith, length-take-le l (drop a h) (omega (arith, length-drop a h))))
 within-end k h Absent e = omega arith
 
 -- the label and the rule lie in the header
-pub record Inside (h : List ℕ) (p q : Place) : Type 0 where
+pub record Inside (h : List ℕ) (p q : Stretch) : Type 0 where
   pub label : endOf p ≤ length h
   pub rule : endOf q ≤ length h
 
-pub fields-end : (h : List ℕ) {p q : Place} {n : Forms} → metadata h ≡ Fields p q n → Inside h p q
+pub fields-end : (h : List ℕ) {p q : Stretch} {n : Forms} → metadata h ≡ Fields p q n → Inside h p q
 unfolding metadata
 fields-end h {p} {q} {n} e =
     by-test (Inside h p q) (every lineOk (lines h))

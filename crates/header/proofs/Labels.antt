@@ -9,7 +9,7 @@ use Rattle.text.specs.Bytes.{bytes, first, same, small}
 use Rattle.text.specs.declared.Found.{Found}
 use Rattle.text.specs.declared.Found.the-variants as found
 use Rattle.text.proofs.Walk.{part-from}
-use Rattle.header_fields.specs.declared.Place.the-variants.{At, Absent}
+use Rattle.text.specs.declared.Stretch.the-variants.{At, Absent}
 use Rattle.header.specs.Header.{upTo, charset, labelIs, utf8Label}
 
 abbrev pub pattern : List ℕ

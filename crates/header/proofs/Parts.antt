@@ -15,8 +15,8 @@ use Rattle.text.proofs.Tests.{taken, left}
 use Rattle.text.proofs.Sought.{first-inside}
 use Rattle.header_fields.specs.Fields.{shift, named, lines, lineOk}
 use Rattle.header_fields.specs.Promise.{endOf}
-use Rattle.header_fields.specs.declared.Place.{Place}
-use Rattle.header_fields.specs.declared.Place.the-variants.{At}
+use Rattle.text.specs.declared.Stretch.{Stretch}
+use Rattle.text.specs.declared.Stretch.the-variants.{At}
 use Rattle.header_fields.proofs.Places.{named-end, cut-end}
 use Rattle.header_forms.specs.Forms.{formsAt}
 use Rattle.header_forms.specs.declared.Forms.{Forms}
@@ -41,10 +41,10 @@ part-end Charset v = label-end v (first pattern v) refl
 part-end Plural v = cut-end (named six whiteSpace 61 (bytes "plural")) (named-end six whiteSpace 61 (bytes "plural")) 59 v
 
 -- the value at a place, and what is sought in it
-pub part-found : (k : Sought) (h : List ℕ) (start len : ℕ) {p q r : Place} → p ≡ At start len → q ≡ partOf k (take (start + len - start) (drop start h)) → r ≡ shift start q
+pub part-found : (k : Sought) (h : List ℕ) (start len : ℕ) {p q r : Stretch} → p ≡ At start len → q ≡ partOf k (take (start + len - start) (drop start h)) → r ≡ shift start q
     → r ≡ within h p (partOf k)
 part-found k h start len {p} e f g =
-    g ∙ ap (shift start) f ∙ ap (λ (n : ℕ). shift start (partOf k (take n (drop start h)))) (add-sub-cancel-left start len) ∙ ap (λ (x : Place). within h x (partOf k)) (sym e)
+    g ∙ ap (shift start) f ∙ ap (λ (n : ℕ). shift start (partOf k (take n (drop start h)))) (add-sub-cancel-left start len) ∙ ap (λ (x : Stretch). within h x (partOf k)) (sym e)
 
 pub field-end : (name h : List ℕ) → endOf (field name h) ≤ length h
 field-end name h = cut-end (named whiteSpace whiteSpace 58 name) (named-end whiteSpace whiteSpace 58 name) 10 h
@@ -54,7 +54,7 @@ module _ (h : List ℕ) where
   unfolding metadata
   malformed e = sym (left _ _ e)
 
-  pub well-formed : {p q a b : Place} {n : Forms} → every lineOk (lines h) ≡ true → p ≡ field (bytes "Content-Type") h → q ≡ field (bytes "Plural-Forms") h
+  pub well-formed : {p q a b : Stretch} {n : Forms} → every lineOk (lines h) ≡ true → p ≡ field (bytes "Content-Type") h → q ≡ field (bytes "Plural-Forms") h
       → a ≡ within h p (partOf Charset) → b ≡ within h q (partOf Plural) → n ≡ formsAt h q → Fields a b n ≡ metadata h
   unfolding metadata
   well-formed e f g i j k = rw (i, j, k, f, g) (sym (taken _ _ e))

@@ -12,19 +12,19 @@ use Rattle.text.specs.Cut.{cut, every}
 use Rattle.text.specs.declared.Found.{Found}
 use Rattle.text.specs.declared.Found.the-variants as found
 use Rattle.header_fields.specs.Fields.{shift, named, lastOf, lineOk, lines}
-use Rattle.header_fields.specs.declared.Place.{Place}
-use Rattle.header_fields.specs.declared.Place.the-variants.{At, Absent}
+use Rattle.text.specs.declared.Stretch.{Stretch}
+use Rattle.text.specs.declared.Stretch.the-variants.{At, Absent}
 use Rattle.header_forms.specs.Forms.{formsAt}
 use Rattle.header.specs.declared.Metadata.{Metadata}
 use Rattle.header.specs.declared.Metadata.the-variants.{Malformed, Fields}
 
 -- a part of the part of s at a place
-abbrev pub within : List ℕ → Place → (List ℕ → Place) → Place
+abbrev pub within : List ℕ → Stretch → (List ℕ → Stretch) → Stretch
 within s (At start len) f = shift start (f (take len (drop start s)))
 within s Absent f = Absent
 
 -- the last line of a name: its value's place
-abbrev pub field : List ℕ → List ℕ → Place
+abbrev pub field : List ℕ → List ℕ → Stretch
 field name h = lastOf (named whiteSpace whiteSpace (code ":") name) 0 (lines h)
 
 -- in Content-Type, what stands between the first "charset=" and the second, or the end
@@ -32,15 +32,15 @@ abbrev pub upTo : Found → ℕ → ℕ
 upTo (found.At j) n = j
 upTo found.Nowhere n = n
 
-abbrev pub labelAfter : Found → List ℕ → Place
+abbrev pub labelAfter : Found → List ℕ → Stretch
 labelAfter (found.At i) v = At (i + 8) (upTo (first (bytes "charset=") (drop (i + 8) v)) (length (drop (i + 8) v)))
 labelAfter found.Nowhere v = Absent
 
-unfoldable pub charset : List ℕ → Place
+unfoldable pub charset : List ℕ → Stretch
 charset v = labelAfter (first (bytes "charset=") v) v
 
 -- in Plural-Forms, which is cut at semicolons, the last value of the name plural
-unfoldable pub plural : List ℕ → Place
+unfoldable pub plural : List ℕ → Stretch
 unfolding lastOf named
 plural v = lastOf (named six whiteSpace (code "=") (bytes "plural")) 0 (cut (code ";") v)
 

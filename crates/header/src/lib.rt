@@ -6,35 +6,35 @@ ghost use lib.ListN.{length};
 ghost use Rattle.header_fields.specs.Promise.{endOf};
 ghost use Rattle.header.specs.Header.{within, charset, plural, metadata, utf8Label};
 ghost use Rattle.header.specs.Private.{partOf};
-use header_fields::Place;
 use header_forms::Forms;
 use text::Found;
+use text::Stretch;
 use text_trim::Set;
 
 // The charset label, the plural rule and the count of forms, or a line that is no field.
 pub enum Metadata {
     Malformed,
-    Fields(Place, Place, Forms),
+    Fields(Stretch, Stretch, Forms),
 }
 
 // The label in a Content-Type: between the first "charset=" and the second, or the end.
-fn charset_in(v: &[u8]) -> Place
+fn charset_in(v: &[u8]) -> Stretch
     ensures { λ r. ⌜ r ≡ charset (now (v .entry)) ⌝ }
 {
     let first = text::find(v, b"charset=");
     let Found::At(i) = first else {
-        return Place::Absent;
+        return Stretch::Absent;
     };
     let start = i + 8;
     let second = text::find(&v[start..], b"charset=");
     match second {
-        Found::At(j) => Place::At(start, j),
-        Found::Nowhere => Place::At(start, v.len() - start),
+        Found::At(j) => Stretch::At(start, j),
+        Found::Nowhere => Stretch::At(start, v.len() - start),
     }
 }
 
 // The rule in a Plural-Forms.
-fn plural_in(v: &[u8]) -> Place
+fn plural_in(v: &[u8]) -> Stretch
     ensures { λ r. ⌜ r ≡ plural (now (v .entry)) ⌝ }
 {
     header_fields::last_of(v, b';', b'=', b"plural", Set::Six)
@@ -46,7 +46,7 @@ enum Sought {
     Plural,
 }
 
-fn part_of(v: &[u8], sought: Sought) -> Place
+fn part_of(v: &[u8], sought: Sought) -> Stretch
     ensures { λ r. ⌜ r ≡ partOf sought (now (v .entry)) ⌝ }
 {
     match sought {
@@ -56,16 +56,16 @@ fn part_of(v: &[u8], sought: Sought) -> Place
 }
 
 // What is sought in the value at a place of the header.
-fn part_in(h: &[u8], p: Place, sought: Sought) -> Place
+fn part_in(h: &[u8], p: Stretch, sought: Sought) -> Stretch
     requires { ⌜ endOf p ≤ length (now h) ⌝ }
     ensures { λ r. ⌜ r ≡ within (now (h .entry)) p (partOf sought) ⌝ }
 {
     match p {
-        Place::At(start, len) => {
+        Stretch::At(start, len) => {
             let end = start + len;
             header_fields::moved(start, part_of(&h[start..end], sought))
         }
-        Place::Absent => Place::Absent,
+        Stretch::Absent => Stretch::Absent,
     }
 }
 

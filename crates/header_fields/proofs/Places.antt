@@ -16,23 +16,23 @@ use Rattle.text.proofs.Cuts.{rest-last, rest-more, spanned, spans, cut-spans}
 use Rattle.text_trim.proofs.Trimming.{trim-bound}
 use Rattle.header_fields.specs.Fields.{shift, orElse, has, isNamed, valueAt, named, lastOf}
 use Rattle.header_fields.specs.Promise.{startOf, endOf}
-use Rattle.header_fields.specs.declared.Place.{Place}
-use Rattle.header_fields.specs.declared.Place.the-variants.{At, Absent}
+use Rattle.text.specs.declared.Stretch.{Stretch}
+use Rattle.text.specs.declared.Stretch.the-variants.{At, Absent}
 
 -- a place ends where it does, moved k on
-pub shift-end : (k n m : ℕ) (p : Place) → endOf p ≤ n → k + n ≤ m → endOf (shift k p) ≤ m
+pub shift-end : (k n m : ℕ) (p : Stretch) → endOf p ≤ n → k + n ≤ m → endOf (shift k p) ≤ m
 shift-end k n m (At a l) h i = omega arith
 shift-end k n m Absent h i = omega arith
 
-pub start-end : (p : Place) → startOf p ≤ endOf p
+pub start-end : (p : Stretch) → startOf p ≤ endOf p
 start-end (At a l) = omega arith
 start-end Absent = omega arith
 
-orElse-end : (n : ℕ) (p q : Place) → endOf p ≤ n → endOf q ≤ n → endOf (orElse p q) ≤ n
+orElse-end : (n : ℕ) (p q : Stretch) → endOf p ≤ n → endOf q ≤ n → endOf (orElse p q) ≤ n
 orElse-end n (At a l) q h k = h
 orElse-end n Absent q h k = k
 
-pub orElse-assoc : (p q r : Place) → orElse (orElse p q) r ≡ orElse p (orElse q r)
+pub orElse-assoc : (p q r : Stretch) → orElse (orElse p q) r ≡ orElse p (orElse q r)
 orElse-assoc (At a l) q r = refl
 orElse-assoc Absent q r = refl
 
@@ -67,7 +67,7 @@ module _ (wn wv : Chars) (x : ℕ) (name s : List ℕ) where
       (λ e. let z : named wn wv x name s ≡ Absent = left _ _ e in rw z (omega arith))
 
 -- what every piece answers lies in it: so does the last answer in the text
-lastOf-end : (f : List ℕ → Place) → ((p : List ℕ) → endOf (f p) ≤ length p) → (at n : ℕ) (ps : List (List ℕ)) → spanned at ps ≤ n + 1 → endOf (lastOf f at ps) ≤ n
+lastOf-end : (f : List ℕ → Stretch) → ((p : List ℕ) → endOf (f p) ≤ length p) → (at n : ℕ) (ps : List (List ℕ)) → spanned at ps ≤ n + 1 → endOf (lastOf f at ps) ≤ n
 unfolding lastOf
 lastOf-end f g at n [] h = omega arith
 lastOf-end f g at n (p ∷ ps) h =
@@ -75,22 +75,22 @@ lastOf-end f g at n (p ∷ ps) h =
     (lastOf-end f g (at + length p + 1) n ps h)
     (shift-end at (length p) n (f p) (g p) (omega (arith, spans (at + length p + 1) ps)))
 
-pub cut-end : (f : List ℕ → Place) → ((p : List ℕ) → endOf (f p) ≤ length p) → (x : ℕ) (s : List ℕ) → endOf (lastOf f 0 (cut x s)) ≤ length s
+pub cut-end : (f : List ℕ → Stretch) → ((p : List ℕ) → endOf (f p) ≤ length p) → (x : ℕ) (s : List ℕ) → endOf (lastOf f 0 (cut x s)) ≤ length s
 cut-end f g x s = lastOf-end f g 0 (length s) (cut x s) (omega (arith, cut-spans x s 0))
 
 -- the last answer, as a loop over the pieces meets it: what the pieces from at on answer, or else what was found
-module _ (f : List ℕ → Place) (x : ℕ) (s : List ℕ) where
-  abbrev pub Met : ℕ → Place → Type 0
+module _ (f : List ℕ → Stretch) (x : ℕ) (s : List ℕ) where
+  abbrev pub Met : ℕ → Stretch → Type 0
   Met at found = lastOf f 0 (cut x s) ≡ orElse (lastOf f at (cut x (drop at s))) found
 
   pub met-none : Met 0 Absent
   met-none = right-unit (lastOf f 0 (cut x s))
     where
-      right-unit : (p : Place) → p ≡ orElse p Absent
+      right-unit : (p : Stretch) → p ≡ orElse p Absent
       right-unit (At a l) = refl
       right-unit Absent = refl
 
-  module _ (at end : ℕ) (found : Place) (e : end ≡ at + place x (drop at s)) (i : at ≤ length s) where
+  module _ (at end : ℕ) (found : Stretch) (e : end ≡ at + place x (drop at s)) (i : at ≤ length s) where
     pub met-last : length s ≤ end → Met at found → orElse (shift at (f (take (end - at) (drop at s)))) found ≡ lastOf f 0 (cut x s)
     unfolding lastOf
     met-last h m = sym (m ∙ ap (λ (ps : List (List ℕ)). orElse (lastOf f at ps) found) (rest-last x s at end e i h))
@@ -122,12 +122,12 @@ value-fits w s i a h e =
     omega (arith, trim-bound w (drop (i + 1) s), length-drop (i + 1) s)
 
 -- a piece's answer can be moved to where the piece starts
-pub piece-fits : (f : List ℕ → Place) → ((p : List ℕ) → endOf (f p) ≤ length p) → (s : List ℕ) (at end : ℕ) {r : Place} → r ≡ f (take (end - at) (drop at s))
+pub piece-fits : (f : List ℕ → Stretch) → ((p : List ℕ) → endOf (f p) ≤ length p) → (s : List ℕ) (at end : ℕ) {r : Stretch} → r ≡ f (take (end - at) (drop at s))
     → at ≤ end → end ≤ length s → at + startOf r ≤ length s
 piece-fits f g s at end {r} e l h =
     let p : endOf r ≤ length (take (end - at) (drop at s)) = rw e (g (take (end - at) (drop at s))) in
     omega (arith, start-end r, length-take (end - at) (drop at s))
 
 -- what the code has found after a piece
-pub found-so : (at : ℕ) (found : Place) {r p q m : Place} → p ≡ q → m ≡ shift at p → r ≡ orElse m found → r ≡ orElse (shift at q) found
-found-so at found e f g = g ∙ ap (λ (x : Place). orElse x found) (f ∙ ap (shift at) e)
+pub found-so : (at : ℕ) (found : Stretch) {r p q m : Stretch} → p ≡ q → m ≡ shift at p → r ≡ orElse m found → r ≡ orElse (shift at q) found
+found-so at found e f g = g ∙ ap (λ (x : Stretch). orElse x found) (f ∙ ap (shift at) e)

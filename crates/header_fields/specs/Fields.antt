@@ -9,15 +9,15 @@ use lib.Dec.{ltb}
 use Rattle.text.specs.Bytes.{same, place}
 use Rattle.text_trim.specs.Trim.{Chars, edge, trim}
 use Rattle.text.specs.Cut.{cut}
-use Rattle.header_fields.specs.declared.Place.{Place}
-use Rattle.header_fields.specs.declared.Place.the-variants.{At, Absent}
+use Rattle.text.specs.declared.Stretch.{Stretch}
+use Rattle.text.specs.declared.Stretch.the-variants.{At, Absent}
 
 -- the same part, counted from k bytes earlier
-abbrev pub shift : ℕ → Place → Place
+abbrev pub shift : ℕ → Stretch → Stretch
 shift k (At start len) = At (k + start) len
 shift k Absent = Absent
 
-abbrev pub orElse : Place → Place → Place
+abbrev pub orElse : Stretch → Stretch → Stretch
 orElse (At start len) p = At start len
 orElse Absent p = p
 
@@ -29,15 +29,15 @@ has x s = ltb (place x s) (length s)
 abbrev pub isNamed : Chars → ℕ → List ℕ → List ℕ → Bool
 isNamed w x name s = has x s && same name (trim w (take (place x s) s))
 
-abbrev pub valueAt : Chars → ℕ → List ℕ → Place
+abbrev pub valueAt : Chars → ℕ → List ℕ → Stretch
 valueAt w x s = At (place x s + 1 + edge w (drop (place x s + 1) s)) (length (trim w (drop (place x s + 1) s)))
 
 -- the value's place, if the field has that name
-unfoldable pub named : Chars → Chars → ℕ → List ℕ → List ℕ → Place
+unfoldable pub named : Chars → Chars → ℕ → List ℕ → List ℕ → Stretch
 named wn wv x name s = elim (isNamed wn x name s) [ true ↦ valueAt wv x s | false ↦ Absent ]
 
 -- of the pieces of a text, which start at a place and have a byte between them, the last field of that name
-unfoldable pub lastOf : (List ℕ → Place) → ℕ → List (List ℕ) → Place
+unfoldable pub lastOf : (List ℕ → Stretch) → ℕ → List (List ℕ) → Stretch
 lastOf f at [] = Absent
 lastOf f at (p ∷ ps) = orElse (lastOf f (at + length p + 1) ps) (shift at (f p))
 

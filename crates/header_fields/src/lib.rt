@@ -6,56 +6,51 @@ ghost use Rattle.text_trim.specs.Trim.{charsOf, whiteSpace};
 ghost use Rattle.text.specs.Cut.{cut, every};
 ghost use Rattle.header_fields.specs.Fields.{shift, orElse, named, lastOf, lineOk, lines};
 ghost use Rattle.header_fields.specs.Promise.{startOf};
+use text::Stretch;
 use text_trim::Set;
 
-// A part of a text.
-pub enum Place {
-    At(usize, usize),
-    Absent,
-}
-
 // The same part, counted from k bytes earlier. The caller proves that its start is still a machine number: the part lies in a text.
-pub fn moved(k: usize, p: Place) -> Place
+pub fn moved(k: usize, p: Stretch) -> Stretch
     requires { ⌜ k + startOf p < 2 ^ 64 ⌝ }
     ensures { λ r. ⌜ r ≡ shift k p ⌝ }
 {
     match p {
-        Place::At(start, len) => Place::At(k + start, len),
-        Place::Absent => Place::Absent,
+        Stretch::At(start, len) => Stretch::At(k + start, len),
+        Stretch::Absent => Stretch::Absent,
     }
 }
 
 // The first part, where there is one, else the second.
-fn or_else(p: Place, q: Place) -> Place
+fn or_else(p: Stretch, q: Stretch) -> Stretch
     ensures { λ r. ⌜ r ≡ orElse p q ⌝ }
 {
     match p {
-        Place::At(start, len) => p,
-        Place::Absent => q,
+        Stretch::At(start, len) => p,
+        Stretch::Absent => q,
     }
 }
 
 // The value of a field `name x value`, where it has that name. The name is trimmed of the set given, the value of all white space.
-fn named_value(s: &[u8], x: u8, name: &[u8], names: Set) -> Place
+fn named_value(s: &[u8], x: u8, name: &[u8], names: Set) -> Stretch
     ensures { λ r. ⌜ r ≡ named (charsOf names) whiteSpace x (now (name .entry)) (now (s .entry)) ⌝ }
 {
     let i = text::find_byte(s, x);
     if s.len() <= i {
-        return Place::Absent;
+        return Stretch::Absent;
     }
     if text::equal(text_trim::trim(&s[..i], names), name) {
         let after = i + 1;
         let value = text_trim::trimmed(&s[after..], Set::WhiteSpace);
-        return Place::At(after + value.start, value.len);
+        return Stretch::At(after + value.start, value.len);
     }
-    Place::Absent
+    Stretch::Absent
 }
 
 // The text is cut at each byte c: the value of the last piece that is a field of that name.
-pub fn last_of(s: &[u8], c: u8, x: u8, name: &[u8], names: Set) -> Place
+pub fn last_of(s: &[u8], c: u8, x: u8, name: &[u8], names: Set) -> Stretch
     ensures { λ r. ⌜ r ≡ lastOf (named (charsOf names) whiteSpace x (now (name .entry))) 0 (cut c (now (s .entry))) ⌝ }
 {
-    let mut found = Place::Absent;
+    let mut found = Stretch::Absent;
     let mut at = 0;
     loop {
         let end = text::find_byte_from(s, at, c);

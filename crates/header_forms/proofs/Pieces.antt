@@ -15,8 +15,8 @@ use Rattle.text_trim.specs.Trim.{six, trim}
 use Rattle.text_digits.specs.Digits.{digits}
 use Rattle.text_digits.specs.declared.Number.{Number}
 use Rattle.header_fields.specs.Fields.{has}
-use Rattle.header_fields.specs.declared.Place.{Place}
-use Rattle.header_fields.specs.declared.Place.the-variants as position
+use Rattle.text.specs.declared.Stretch.{Stretch}
+use Rattle.text.specs.declared.Stretch.the-variants as position
 use Rattle.header_forms.specs.Forms.{isCountName, isCount, counted, countIn, orElse, lastCount, formCount, formsAt}
 use Rattle.header_forms.specs.declared.Forms.{Forms}
 use Rattle.header_forms.specs.declared.Forms.the-variants.{Given, Absent}
@@ -80,5 +80,5 @@ module _ (s : List ℕ) where
         ∙ ap (orElse (lastCount (cut 59 (drop (end + 1) s)))) (sym (g ∙ ap (λ (x : Forms). orElse x found) f))
 
 -- the value at a place
-pub at-place : (h : List ℕ) {p : Place} {a l : ℕ} {r : Forms} → p ≡ position.At a l → r ≡ formCount (take (a + l - a) (drop a h)) → r ≡ formsAt h p
+pub at-place : (h : List ℕ) {p : Stretch} {a l : ℕ} {r : Forms} → p ≡ position.At a l → r ≡ formCount (take (a + l - a) (drop a h)) → r ≡ formsAt h p
 at-place h {p} {a} {l} e f = rw (e, ← add-sub-cancel-left a l) f

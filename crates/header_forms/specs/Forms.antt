@@ -11,8 +11,8 @@ use Rattle.text_digits.specs.Digits.{digits}
 use Rattle.text_digits.specs.declared.Number.{Number}
 use Rattle.text_digits.specs.declared.Number.the-variants.{Whole, NoNumber}
 use Rattle.header_fields.specs.Fields.{has}
-use Rattle.header_fields.specs.declared.Place.{Place}
-use Rattle.header_fields.specs.declared.Place.the-variants as position
+use Rattle.text.specs.declared.Stretch.{Stretch}
+use Rattle.text.specs.declared.Stretch.the-variants as position
 use Rattle.header_forms.specs.declared.Forms.{Forms}
 use Rattle.header_forms.specs.declared.Forms.the-variants.{Given, Absent}
 
@@ -49,6 +49,6 @@ unfolding lastCount
 formCount v = lastCount (cut (code ";") v)
 
 -- the same of the part of a header at a place
-abbrev pub formsAt : List ℕ → Place → Forms
+abbrev pub formsAt : List ℕ → Stretch → Forms
 formsAt h (position.At start len) = formCount (take len (drop start h))
 formsAt h position.Absent = Absent

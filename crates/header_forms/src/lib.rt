@@ -1,6 +1,6 @@
 // The count of forms that a Plural-Forms gives. From metadata.rs: the part of `plural_forms` for a count, with the name that real files have,
 // and a value that is no number passed over.
-use header_fields::Place;
+use text::Stretch;
 use text_digits::Number;
 use text_trim::Set;
 ghost use mathlib.Core.Path.{_≡_};
@@ -78,15 +78,15 @@ fn form_count(v: &[u8]) -> Forms
 }
 
 // The count in the Plural-Forms whose value lies at a place of the header. The caller proves that the place lies in it.
-pub fn forms_at(h: &[u8], p: Place) -> Forms
+pub fn forms_at(h: &[u8], p: Stretch) -> Forms
     requires { ⌜ endOf p ≤ length (now h) ⌝ }
     ensures { λ r. ⌜ r ≡ formsAt (now (h .entry)) p ⌝ }
 {
     match p {
-        Place::At(start, len) => {
+        Stretch::At(start, len) => {
             let end = start + len;
             form_count(&h[start..end])
         }
-        Place::Absent => Forms::Absent,
+        Stretch::Absent => Forms::Absent,
     }
 }

@@ -13,8 +13,8 @@ use Rattle.rules.specs.declared.Resolved.{Resolved}
 use Rattle.rules.specs.declared.Resolved.the-variants as resolved
 use Rattle.container_layout.specs.Mo.{pieceAt, segment, segments}
 use Rattle.container_layout.specs.declared.Tables.{Tables}
-use Rattle.container_layout.specs.declared.Stretch.{Stretch}
-use Rattle.container_layout.specs.declared.Stretch.the-variants as stretch
+use Rattle.text.specs.declared.Stretch.{Stretch}
+use Rattle.text.specs.declared.Stretch.the-variants as stretch
 use Rattle.container_layout.proofs.Forms.{segment-holds, segment-is}
 use Rattle.lookup_scan.specs.Keys.{lastWith}
 use Rattle.lookup_scan.specs.declared.Hit.{Hit}
@@ -35,7 +35,7 @@ pub record Answer (s : List ℕ) (t : Tables) (v : Resolved) (h : Hit) (i form a
 module _ (s : List ℕ) (t : Tables) {i form at size : ℕ} where
   by-segment : (g j start len : ℕ) (x : Stretch) → length s ≡ t .length → segment s start len g ≡ x → bySegment j g x ≡ Answered i form at size
       → Answer s t (resolved.Form g) (hit.At j start len) i form at size
-  by-segment g j start len stretch.Outside l e f = let z : _≡_ {A = ℕ} 0 1 = cc in absurd (omega arith)
+  by-segment g j start len stretch.Absent l e f = let z : _≡_ {A = ℕ} 0 1 = cc in absurd (omega arith)
   by-segment g j start len (stretch.At a n) l e f =
       let p : j ≡ i = cc in
       let q : g ≡ form = cc in
@@ -82,7 +82,7 @@ module _ (s : List ℕ) (t : Tables) (key : List ℕ) (v : Resolved) {i form at 
   last-found f = found (last-sound s t key) f
 
 -- there is no piece past the last
-no-piece : (at k : ℕ) (ps : List (List ℕ)) → length ps ≤ k → pieceAt at k ps ≡ stretch.Outside
+no-piece : (at k : ℕ) (ps : List (List ℕ)) → length ps ≤ k → pieceAt at k ps ≡ stretch.Absent
 unfolding pieceAt
 no-piece at k [] h = refl
 no-piece at zero (p ∷ ps) h = absurd (omega arith)
@@ -106,6 +106,6 @@ segment-told s start len form {at} {size} f =
     let y : h .len ≡ size = cc in
     record { inside = omega (arith, h .inside); text = rw (← x, ← y) (h .text) })
     (λ g.
-    let w : stretch.Outside ≡ stretch.At at size = sym (taken _ _ e ∙ no-piece start form (segments s start len) (ltb-false _ _ g)) ∙ f in
+    let w : stretch.Absent ≡ stretch.At at size = sym (taken _ _ e ∙ no-piece start form (segments s start len) (ltb-false _ _ g)) ∙ f in
     absurd (let z : _≡_ {A = ℕ} 0 1 = cc in omega arith)))
-    (λ e. let w : stretch.Outside ≡ stretch.At at size = sym (left _ _ e) ∙ f in absurd (let z : _≡_ {A = ℕ} 0 1 = cc in omega arith))
+    (λ e. let w : stretch.Absent ≡ stretch.At at size = sym (left _ _ e) ∙ f in absurd (let z : _≡_ {A = ℕ} 0 1 = cc in omega arith))

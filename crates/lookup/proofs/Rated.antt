@@ -12,7 +12,7 @@ use Rattle.rules.specs.declared.Rated.the-variants as rated
 use Rattle.rules.proofs.Forms.{rated-forms}
 use Rattle.container_layout.specs.Mo.{segment, segments}
 use Rattle.container_layout.specs.declared.Tables.{Tables}
-use Rattle.container_layout.specs.declared.Stretch.the-variants as stretch
+use Rattle.text.specs.declared.Stretch.the-variants as stretch
 use Rattle.container_layout.proofs.Forms.{segment-holds, segment-is}
 use Rattle.lookup_scan.specs.Keys.{lastWith}
 use Rattle.lookup_scan.specs.declared.Hit.{Hit}

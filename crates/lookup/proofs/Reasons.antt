@@ -14,8 +14,8 @@ use Rattle.rules.specs.declared.Resolved.the-variants as resolved
 use Rattle.rules.proofs.Resolved.{the-type}
 use Rattle.container_layout.specs.Mo.{segment}
 use Rattle.container_layout.specs.declared.Tables.{Tables}
-use Rattle.container_layout.specs.declared.Stretch.{Stretch}
-use Rattle.container_layout.specs.declared.Stretch.the-variants as stretch
+use Rattle.text.specs.declared.Stretch.{Stretch}
+use Rattle.text.specs.declared.Stretch.the-variants as stretch
 use Rattle.lookup_scan.specs.declared.Hit.{Hit}
 use Rattle.lookup_scan.specs.declared.Hit.the-variants as hit
 use Rattle.lookup_index.specs.declared.Sought.{Sought}
@@ -73,7 +73,7 @@ module _ (s : List ℕ) (t : Tables) (v : Resolved) (x : Sought) where
 -- an entry changes the text, and no number
 by-segment-0 : (i form : ℕ) (x : Stretch) → number (bySegment i form x) ≡ 0
 by-segment-0 i form (stretch.At start len) = refl
-by-segment-0 i form stretch.Outside = refl
+by-segment-0 i form stretch.Absent = refl
 
 pub by-entry-0 : (s : List ℕ) (form : ℕ) (h : Hit) → number (byEntry s form h) ≡ 0
 by-entry-0 s form (hit.At i start len) = by-segment-0 i form (segment s start len form)

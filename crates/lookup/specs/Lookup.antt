@@ -11,8 +11,8 @@ use Rattle.rules.specs.declared.Resolved.{Resolved}
 use Rattle.rules.specs.declared.Resolved.the-variants as resolved
 use Rattle.container_layout.specs.Mo.{segment}
 use Rattle.container_layout.specs.declared.Tables.{Tables}
-use Rattle.container_layout.specs.declared.Stretch.{Stretch}
-use Rattle.container_layout.specs.declared.Stretch.the-variants as stretch
+use Rattle.text.specs.declared.Stretch.{Stretch}
+use Rattle.text.specs.declared.Stretch.the-variants as stretch
 use Rattle.lookup_scan.specs.declared.Hit.{Hit}
 use Rattle.lookup_scan.specs.declared.Hit.the-variants as hit
 use Rattle.lookup_index.specs.declared.Sought.{Sought}
@@ -23,7 +23,7 @@ use Rattle.lookup.specs.declared.Reason.the-variants.{StaleLength, NoTre
 -- the segment that a form names, of entry i
 abbrev pub bySegment : ℕ → ℕ → Stretch → Reason
 bySegment i form (stretch.At start len) = Answered i form start len
-bySegment i form stretch.Outside = TooFewSegments i
+bySegment i form stretch.Absent = TooFewSegments i
 
 -- of the entry with the key, if there is one
 abbrev pub byEntry : List ℕ → ℕ → Hit → Reason

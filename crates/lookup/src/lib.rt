@@ -1,11 +1,11 @@
 // Lookups: why a lookup answers as it does, and which text answers. From lib.rs: `gettext`, `ngettext`, `pgettext` and `npgettext`; nothing
 // is copied. What follows from the entry with the key is said once, however that entry is found.
-use container_layout::Stretch;
 use container_layout::Tables;
 use lookup_index::Sought;
 use lookup_scan::Hit;
 use refusal::Error;
 use rules::Resolved;
+use text::Stretch;
 ghost use mathlib.Core.Path.{_≡_};
 ghost use Rattle.rules.specs.Pool.{pool};
 ghost use Rattle.rules.specs.Answer.{resolvedOf};

@@ -17,8 +17,8 @@ use Rattle.container_layout.specs.Mo.{string, original, idStart, idEnd, ended, 
 use Rattle.container_layout.specs.declared.Tables.{Tables}
 use Rattle.container_layout.specs.declared.Entry.{Entry}
 use Rattle.container_layout.specs.declared.Entry.the-variants as entries
-use Rattle.container_layout.specs.declared.Stretch.{Stretch}
-use Rattle.container_layout.specs.declared.Stretch.the-variants as stretch
+use Rattle.text.specs.declared.Stretch.{Stretch}
+use Rattle.text.specs.declared.Stretch.the-variants as stretch
 use Rattle.container_layout.proofs.Cells.{string-told}
 use Rattle.container_layout.proofs.Entries.{original-length}
 use Rattle.lookup_scan.specs.Keys.{isKey}
@@ -61,7 +61,7 @@ module _ (s : List ℕ) (t : Tables) (i : ℕ) where
 
   of-translation : (a l : ℕ) (y : Stretch) {a′ n b m : ℕ} → string (t .big) s (t .originals) i ≡ stretch.At a l → ended (original s a l) ≡ true
       → string (t .big) s (t .translations) i ≡ y → translated y a (idEnd (original s a l)) ≡ entries.At a′ n b m → Made s t i a′ n b m
-  of-translation a l stretch.Outside e f g h = absurd (no-entry h)
+  of-translation a l stretch.Absent e f g h = absurd (no-entry h)
   of-translation a l (stretch.At c k) {a′} {n} {b} {m} e f g h =
       let p : a ≡ a′ = cc in
       let q : idEnd (original s a l) ≡ n = cc in
@@ -70,7 +70,7 @@ module _ (s : List ℕ) (t : Tables) (i : ℕ) where
       rw (← p, ← q, ← u, ← v) (of-parts a l c k e f g)
 
   of-original : (x : Stretch) {a n b m : ℕ} → string (t .big) s (t .originals) i ≡ x → keyed s x (string (t .big) s (t .translations) i) ≡ entries.At a n b m → Made s t i a n b m
-  of-original stretch.Outside e f = absurd (no-entry f)
+  of-original stretch.Absent e f = absurd (no-entry f)
   of-original (stretch.At c l) {a} {n} {b} {m} e f =
       by-test (Made s t i a n b m) (ended (original s c l))
       (λ h. of-translation c l (string (t .big) s (t .translations) i) e h refl (sym (taken _ _ h) ∙ f))
@@ -120,12 +120,12 @@ module _ (s : List ℕ) (t : Tables) (key : List ℕ) (i : ℕ) where
   shorter f = let k = keyed-told f in omega (arith, key-inside s t i (k .has .entry))
 
   -- an entry without a cell, or without an original, has no key
-  pub no-string : string (t .big) s (t .originals) i ≡ stretch.Outside → isKey s key (entry s t i) ≡ false
+  pub no-string : string (t .big) s (t .originals) i ≡ stretch.Absent → isKey s key (entry s t i) ≡ false
   no-string e = is-false _ (λ f. let q = made s t i (keyed-told f .has .entry) .original in let z : _≡_ {A = ℕ} 0 1 = cc in omega arith)
 
 -- the quick test of an entry
 module _ (s : List ℕ) (t : Tables) (i n : ℕ) where
-  pub may-not-outside : {x : Stretch} → x ≡ string (t .big) s (t .originals) i → x ≡ stretch.Outside → MayBe s t i n false
+  pub may-not-outside : {x : Stretch} → x ≡ string (t .big) s (t .originals) i → x ≡ stretch.Absent → MayBe s t i n false
   may-not-outside e f = record { no = λ r key h. no-string s t key i (sym e ∙ f) }
 
   module _ {a l : ℕ} {x : Stretch} (e : x ≡ string (t .big) s (t .originals) i) (f : x ≡ stretch.At a l) where

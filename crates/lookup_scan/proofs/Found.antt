@@ -16,8 +16,8 @@ use Rattle.text.proofs.Same.{same-true, same-refl}
 use Rattle.container_layout.specs.Mo.{string, original, idEnd, entry}
 use Rattle.container_layout.specs.declared.Tables.{Tables}
 use Rattle.container_layout.specs.declared.Entry.the-variants as entries
-use Rattle.container_layout.specs.declared.Stretch.{Stretch}
-use Rattle.container_layout.specs.declared.Stretch.the-variants as stretch
+use Rattle.text.specs.declared.Stretch.{Stretch}
+use Rattle.text.specs.declared.Stretch.the-variants as stretch
 use Rattle.container_layout.proofs.Cells.{string-told}
 use Rattle.container_layout.proofs.Entries.{original-part, original-length, is-entry}
 use Rattle.lookup_scan.specs.Keys.{isKey}
@@ -55,7 +55,7 @@ module _ (s : List ℕ) (t : Tables) (key : List ℕ) (i : ℕ) {a l n : ℕ} (z
       (ap idEnd (original-part s a l) ∙ sym (z ∙ made s t i (k .has .entry) .end ∙ ap₂ (λ (x y : ℕ). idEnd (original s x y)) (same-place k .0) (same-place k .1))))
 
   -- no translation
-  pub found-untranslated : {y : Stretch} → y ≡ string (t .big) s (t .translations) i → y ≡ stretch.Outside → hit.Missing ≡ hitIf s t key i
+  pub found-untranslated : {y : Stretch} → y ≡ string (t .big) s (t .translations) i → y ≡ stretch.Absent → hit.Missing ≡ hitIf s t key i
   found-untranslated e f = other (λ k. let q = made s t i (k .has .entry) .translation in let w : _≡_ {A = ℕ} 0 1 = cc in omega arith)
 
   module _ {r : Bool} (e : r ≡ same key (take (a + n - a) (drop a s))) (f : r ≡ true) where

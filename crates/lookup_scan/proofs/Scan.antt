@@ -12,7 +12,7 @@ use Rattle.text.proofs.Tests.{never, taken, left, by-test}
 use Rattle.container_layout.specs.Mo.{hasCell, entry}
 use Rattle.container_layout.specs.declared.Entry.{Entry}
 use Rattle.container_layout.specs.declared.Entry.the-variants as entries
-use Rattle.container_layout.specs.declared.Stretch.the-variants as stretch
+use Rattle.text.specs.declared.Stretch.the-variants as stretch
 use Rattle.container_layout.proofs.Cells.{no-cell}
 use Rattle.lookup_scan.specs.Keys.{isKey, hitOf, lastIn, lastWith}
 use Rattle.lookup_scan.specs.Promise.{hitIf}

@@ -6,7 +6,7 @@ use mathlib.Core.List.{List, _∷_, _++_}
 use lib.ListN.{length, getD}
 use Rattle.lookup_scan.specs.Keys.{isKey}
 use Rattle.container_layout.specs.Mo.{hasCell, string, entry}
-use Rattle.container_layout.specs.declared.Stretch.the-variants as stretch
+use Rattle.text.specs.declared.Stretch.the-variants as stretch
 use Rattle.container_layout.specs.declared.Tables.{Tables}
 
 -- entry i may have a key of n bytes; where it may not, it has none of that length

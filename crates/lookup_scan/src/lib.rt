@@ -1,8 +1,8 @@
 // The search for a key: the last entry that has it. From lib.rs: `key_with_context`, and `strings.get` of the lookups; a key is compared
 // where it lies, and nothing is built or copied.
-use container_layout::Stretch;
 use container_layout::Tables;
 use container_layout::wide;
+use text::Stretch;
 ghost use mathlib.Core.Path.{_≡_};
 ghost use Prim.Native.Nat.{_+_, _≤_};
 ghost use lib.Dec.{eqb};

@@ -9,8 +9,8 @@ use Rattle.text.proofs.Tests.{taken, left}
 use Rattle.rules_zero.specs.declared.Traced.{Traced}
 use Rattle.container_layout.specs.Mo.{segment}
 use Rattle.container_layout.specs.declared.Tables.{Tables}
-use Rattle.container_layout.specs.declared.Stretch.{Stretch}
-use Rattle.container_layout.specs.declared.Stretch.the-variants as stretch
+use Rattle.text.specs.declared.Stretch.{Stretch}
+use Rattle.text.specs.declared.Stretch.the-variants as stretch
 use Rattle.lookup_scan.specs.declared.Hit.{Hit}
 use Rattle.lookup_scan.specs.declared.Hit.the-variants as hit
 use Rattle.lookup_why.specs.Why.{stored, bySegment, byEntry, byRule, why}
@@ -25,7 +25,7 @@ module _ (s : List ℕ) (form : ℕ) {h : Hit} {i start len : ℕ} {x : Stretch}
   pub answered : {at n : ℕ} → x ≡ stretch.At at n → Answered i form at n ≡ byEntry s form h
   answered g = by-segment g
 
-  pub too-few : {k : ℕ} → x ≡ stretch.Outside → k ≡ stored s start len → TooFewSegments i k form ≡ byEntry s form h
+  pub too-few : {k : ℕ} → x ≡ stretch.Absent → k ≡ stored s start len → TooFewSegments i k form ≡ byEntry s form h
   too-few g d = ap (λ (k : ℕ). TooFewSegments i k form) d ∙ by-segment g
 
 module _ (s : List ℕ) (t : Tables) (v : Traced) (h : Hit) where

@@ -16,8 +16,8 @@ use Rattle.rules_zero.specs.Zero.{zeroAt, traced, tracedOf}
 use Rattle.container_layout.specs.Mo.{pieceAt, segment, segments}
 use Rattle.container_layout.proofs.Forms.{segment-holds, segment-is}
 use Rattle.container_layout.specs.declared.Tables.{Tables}
-use Rattle.container_layout.specs.declared.Stretch.{Stretch}
-use Rattle.container_layout.specs.declared.Stretch.the-variants as stretch
+use Rattle.text.specs.declared.Stretch.{Stretch}
+use Rattle.text.specs.declared.Stretch.the-variants as stretch
 use Rattle.lookup_scan.specs.declared.Hit.{Hit}
 use Rattle.lookup_scan.specs.declared.Hit.the-variants as hit
 use Rattle.lookup.specs.Lookup as lookup
@@ -31,7 +31,7 @@ use Rattle.lookup_why.specs.declared.Why.the-variants.{StaleLength}
 
 same-segment : (i k form : ℕ) (x : Stretch) → reasonOf (bySegment i k form x) ≡ lookup.bySegment i form x
 same-segment i k form (stretch.At start len) = refl
-same-segment i k form stretch.Outside = refl
+same-segment i k form stretch.Absent = refl
 
 same-entry : (s : List ℕ) (form : ℕ) (h : Hit) → reasonOf (byEntry s form h) ≡ lookup.byEntry s form h
 same-entry s form (hit.At i start len) = same-segment i (stored s start len) form (segment s start len form)
@@ -70,7 +70,7 @@ module _ (s : List ℕ) (t : Tables) (P : Pool) (nodes root n : ℕ) (h : Hit) w
   why-text = ap (pluralText n) why-true
 
 -- How many segments an entry stores: exactly the forms below have one.
-none-past : (at k : ℕ) (ps : List (List ℕ)) → length ps ≤ k → pieceAt at k ps ≡ stretch.Outside
+none-past : (at k : ℕ) (ps : List (List ℕ)) → length ps ≤ k → pieceAt at k ps ≡ stretch.Absent
 unfolding pieceAt
 none-past at k [] h = refl
 none-past at zero (p ∷ ps) h = absurd (omega arith)
@@ -93,11 +93,11 @@ module _ (s : List ℕ) (start len form : ℕ) where
           record { at = w .start; size = w .len; is = segment-is s start len d form ∙ w .is }
       go false e l = absurd (omega arith)
 
-  pub past-stored : stored s start len ≤ form → segment s start len form ≡ stretch.Outside
+  pub past-stored : stored s start len ≤ form → segment s start len form ≡ stretch.Absent
   unfolding stored segment
   past-stored h = go (leb (start + len) (length s)) h
     where
       go : (b : Bool) → elim b [ true ↦ length (segments s start len) | false ↦ 0 ] ≤ form
-          → _≡_ {A = Stretch} (elim b [ true ↦ pieceAt start form (segments s start len) | false ↦ stretch.Outside ]) stretch.Outside
+          → _≡_ {A = Stretch} (elim b [ true ↦ pieceAt start form (segments s start len) | false ↦ stretch.Absent ]) stretch.Absent
       go true l = none-past start form (segments s start len) l
       go false l = refl

@@ -9,8 +9,8 @@ use Rattle.rules_zero.specs.declared.Traced.{Traced}
 use Rattle.rules_zero.specs.declared.Traced.the-variants as traced
 use Rattle.container_layout.specs.Mo.{segment, segments}
 use Rattle.container_layout.specs.declared.Tables.{Tables}
-use Rattle.container_layout.specs.declared.Stretch.{Stretch}
-use Rattle.container_layout.specs.declared.Stretch.the-variants as stretch
+use Rattle.text.specs.declared.Stretch.{Stretch}
+use Rattle.text.specs.declared.Stretch.the-variants as stretch
 use Rattle.lookup_scan.specs.declared.Hit.{Hit}
 use Rattle.lookup_scan.specs.declared.Hit.the-variants as hit
 use Rattle.lookup.specs.declared.Reason.{Reason}
@@ -25,7 +25,7 @@ stored s start len = elim (leb (start + len) (length s)) [ true ↦ length (segm
 -- the segment that a form names, of entry i, which stores k of them
 abbrev pub bySegment : ℕ → ℕ → ℕ → Stretch → Why
 bySegment i k form (stretch.At start len) = Answered i form start len
-bySegment i k form stretch.Outside = TooFewSegments i k form
+bySegment i k form stretch.Absent = TooFewSegments i k form
 
 -- of the entry with the key, if there is one
 abbrev pub byEntry : List ℕ → ℕ → Hit → Why

@@ -1,9 +1,9 @@
 // Why a lookup with a count answers as it does, with what support asks for: the node, the entry, how many forms it stores.
-use container_layout::Stretch;
 use container_layout::Tables;
 use lookup::Reason;
 use lookup_scan::Hit;
 use rules_zero::Traced;
+use text::Stretch;
 ghost use mathlib.Core.Path.{_≡_};
 ghost use lib.ListN.{length};
 ghost use Rattle.text.specs.Cut.{cut};

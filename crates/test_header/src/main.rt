@@ -1,11 +1,11 @@
 // The header's answer for a list of headers: where the label and the rule lie, as texts in brackets, - where there is none, 4 where a
 // line is no field. Then labels: 1 for those of UTF-8. What it should write was written by the Rust's own metadata.rs and `encoding`.
 use header::Metadata;
-use header_fields::Place;
+use text::Stretch;
 
-fn part(h: &[u8], p: Place) {
+fn part(h: &[u8], p: Stretch) {
     match p {
-        Place::At(start, len) => {
+        Stretch::At(start, len) => {
             io::write_all(1, b"[");
             if start <= h.len() {
                 if len <= h.len() - start {
@@ -15,7 +15,7 @@ fn part(h: &[u8], p: Place) {
             }
             io::write_all(1, b"]");
         }
-        Place::Absent => {
+        Stretch::Absent => {
             io::write_all(1, b"-");
         }
     }

@@ -8,6 +8,12 @@ ghost use lib.Dec.{leb};
 ghost use Rattle.text.specs.Bytes.{within, all, front, place, same, begins, first, small, read};
 ghost use Rattle.text.specs.Private.{inRun, Flags, Blocks, differOf, differences, alike};
 
+// A part of a text, its start and its length, or none.
+pub enum Stretch {
+    At(usize, usize),
+    Absent,
+}
+
 // 1 for a byte that is not within the bounds.
 fn outside(b: u8, lo: u8, hi: u8) -> u8
     ensures { λ r. ⌜ Flags (within (lo, hi)) b r ⌝ }

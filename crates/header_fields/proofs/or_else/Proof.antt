@@ -1,7 +1,7 @@
 -- By cases of the first place. Assumes nothing.
 use mathlib.Core.Path.{sym, ap}
 use Rattle.header_fields.specs.Fields.{orElse}
-use Rattle.header_fields.specs.declared.Place.{Place}
+use Rattle.text.specs.declared.Stretch.{Stretch}
 use borrow.Author.Needs.{needs}
 use Rattle.header_fields.proofs.or_else.Statement.{statement}
 use Rattle.header_fields.proofs.or_else.Tie as tie
@@ -13,7 +13,7 @@ enum-told : tie.Need-enum-told
 enum-told c = search needs
 
 returns : tie.Need-returns
-returns c = sym (ap (λ (r : Place). orElse r (c .before .before .before .args .q)) (c .before .p .given .1))
+returns c = sym (ap (λ (r : Stretch). orElse r (c .before .before .before .args .q)) (c .before .p .given .1))
 
 returns-2 : tie.Need-returns-2
 returns-2 c = search needs
