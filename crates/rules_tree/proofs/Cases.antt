@@ -4,7 +4,8 @@ use Prim.Native.Nat.{ℕ, _+_}
 use mathlib.Core.Path.{_≡_, refl}
 use mathlib.Core.Bool.{Bool, true, false}
 use mathlib.Core.List.{List, [], _∷_, map}
-use Rattle.rules.specs.Pool.{Pool, pool, operandsTo, operands, allBelow, used, member, distinct, shaped, isTree, nOp, restOp, nayNode, pickNode, valueOp, pairOp, choiceNode, ternaryNode}
+use lib.Dec.{leb}
+use Rattle.rules.specs.Pool.{Pool, pool, known, operandsTo, operands, allBelow, used, member, distinct, shaped, isTree, nOp, restOp, nayNode, pickNode, valueOp, pairOp, choiceNode, ternaryNode}
 
 -- n and n, with fields that they do not use, and a node over them
 abbrev pub over : ℕ → ℕ → ℕ → Pool
@@ -63,6 +64,9 @@ pub rows-hold : map (λ r. isTree (r .nodes) (r .count) (r .root)) rows ≡ map 
 unfolding isTree shaped used operands operandsTo allBelow distinct member
 rows-hold = refl
 
--- the codes' numbers, of which the last is the last that is known
-pub known-codes : (nOp ∷ restOp ∷ nayNode ∷ pickNode ∷ valueOp ∷ pairOp ∷ choiceNode ∷ ternaryNode ∷ []) ≡ (2 ∷ 15 ∷ 28 ∷ 29 ∷ 30 ∷ 43 ∷ 56 ∷ 57 ∷ [])
-known-codes = refl
+-- the codes' numbers, and which codes are known
+pub code-numbers : (nOp ∷ restOp ∷ nayNode ∷ pickNode ∷ valueOp ∷ pairOp ∷ choiceNode ∷ ternaryNode ∷ []) ≡ (2 ∷ 15 ∷ 28 ∷ 29 ∷ 30 ∷ 43 ∷ 56 ∷ 57 ∷ [])
+code-numbers = refl
+
+pub known-codes : (c : ℕ) → known c ≡ leb c 57
+known-codes c = refl
