@@ -177,17 +177,10 @@ module _ {P : Pool} {p : ℕ} (s : Plain P p) where
     pub left-no-count : {l : ℕ} → l ≡ field P p 0 → (code P l ≡ 0 → ⊥) → left.Other ≡ leftOf (treeOf P p)
     left-no-count d h = sym (rem-here ∙ rw (not-count left-at (rw d at h)))
 
-    rest : {l : ℕ} {o : Small} → l ≡ field P p 0 → code P l ≡ 0 → o ≡ smallBy (numberAt (code P (p - 1)) (value P (p - 1))) → leftOf (treeOf P p) ≡ restBy o
+    pub left-rest : {l : ℕ} {o q : Small} → l ≡ field P p 0 → code P l ≡ 0 → o ≡ smallBy (numberAt (code P (p - 1)) (value P (p - 1))) → o ≡ q
+        → restBy q ≡ leftOf (treeOf P p)
     unfolding isCount
-    rest d h g = rem-here ∙ rw (tree-var left-at (rw d at h), number-at right-at, ← g)
-
-    pub left-rest : {l m : ℕ} {o : Small} → l ≡ field P p 0 → code P l ≡ 0 → o ≡ smallBy (numberAt (code P (p - 1)) (value P (p - 1))) → o ≡ small.Is m
-        → left.Rest m ≡ leftOf (treeOf P p)
-    left-rest d h g i = sym (rest d h g ∙ ap restBy i)
-
-    pub left-large : {l : ℕ} {o : Small} → l ≡ field P p 0 → code P l ≡ 0 → o ≡ smallBy (numberAt (code P (p - 1)) (value P (p - 1))) → o ≡ small.Other
-        → left.Other ≡ leftOf (treeOf P p)
-    left-large d h g i = sym (rest d h g ∙ ap restBy i)
+    left-rest d h g i = sym (rem-here ∙ rw (tree-var left-at (rw d at h), number-at right-at, ← g) (ap restBy i))
 
 -- what a tree is packed to: the trees s, u and w stay operands
 pub record IsLeaf (t : Tree) (c m v : ℕ) : Type 0 where
