@@ -146,6 +146,3 @@ topped {codes} {p} a r h l =
       below = omega (arith, r .below);
       all = λ i j k. ⊎-elim (λ (e : i ≡ p). rw (e, le-leb nayNode (getD codes p 0) h, lt-ltb (getD codes p 0) pairOp l)) (λ m. r .all i j (omega arith)) (eq-or-lt-of-le k);
     }
-
-pub over : {c : ℕ} → nayNode ≤ c → (c ≡ nayNode → ⊥) → nayNode < c
-over h d = omega arith

@@ -261,9 +261,8 @@ module _ (P : Pool) (n p : ℕ) where
 
         high : (b : Bool) → nOp ≤ code P p → ltb (code P p) restOp ≡ b → valueAt P n p ≡ ZeroModulus → Divides P n p
         high true l e f =
-            let g = ltb-true (code P p) restOp e in
-            let k = named (code P p - nOp) (omega arith) in
-            divides-own (tree-leaf P p h ∙ leaf-op (code P p) (field P p 0) (value P p) (k .is) l g) refl refl f
+            let k = named (code P p - nOp) (omega (arith, ltb-true (code P p) restOp e)) in
+            divides-own (tree-leaf P p h ∙ leaf-op (code P p) (field P p 0) (value P p) (k .is) l (ltb-true (code P p) restOp e)) refl refl f
         high false l e f = modulus (eqb (field P p 0) 0) (ltb-false (code P p) restOp e) refl f
 
         low : (b : Bool) → ltb (code P p) nOp ≡ b → valueAt P n p ≡ ZeroModulus → Divides P n p

@@ -1,10 +1,7 @@
 -- `rules_value::leaf` meets its contract: each return is the value of the tree that the tests before it leave.
 use mathlib.Core.Path.{refl}
-use mathlib.Core.Option.{some}
 use native.Mathlib.Omega.{arith}
 use denote.Ref.{now}
-use Rattle.rules.specs.Tree.{rem}
-use Rattle.rules.specs.Operator.{opOf, opAt}
 use Rattle.rules.specs.Pool.{Pool, pool}
 use Rattle.rules.proofs.Operators.{named}
 use Rattle.rules_value.proofs.Values.{at-count, at-int, at-op, at-rest, inside}
@@ -44,8 +41,7 @@ small-requires : tie.Need-small-requires
 small-requires c κs = search needs
 
 apply-requires-2 : tie.Need-apply-requires-2
-unfolding opOf opAt
-apply-requires-2 c κs = record { op = rem; is = refl }
+apply-requires-2 c κs = named _ (omega arith)
 
 apply-requires-3 : tie.Need-apply-requires-3
 apply-requires-3 c κs = let s : tie.Start = c .before .before .before .before .before .before .before .before .before in named _ (omega (arith, s .pre .1))

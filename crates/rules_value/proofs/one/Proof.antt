@@ -7,7 +7,7 @@ use Rattle.rules.specs.Pool.{Pool, pool, code, nayNode, pairOp}
 use Rattle.rules.proofs.Operators.{named}
 use Rattle.rules.proofs.Trees.{before-in}
 use Rattle.rules_tree.proofs.Runs.{low, high}
-use Rattle.rules_value.proofs.Values.{at-nay, at-other, at-value, at-one, inside, over}
+use Rattle.rules_value.proofs.Values.{at-nay, at-other, at-value, at-one, inside}
 use borrow.Author.Needs.{needs}
 use Rattle.rules_value.proofs.one.Statement.{statement}
 use Rattle.rules_value.proofs.one.Tie as tie
@@ -46,7 +46,7 @@ small-requires c κs = search needs
 returns-2 : tie.Need-returns-2
 returns-2 c =
     let s : tie.Start = c .before .before .before .before .before in
-    record { gives = λ n b g. at-other (P s) (s .args .at) n (lower s) g (over (from s) (c .before .before .before .if1 .left)) (c .before .before .if2 .taken) (c .before .if3 .taken) (c .small .ensures) }
+    record { gives = λ n b g. at-other (P s) (s .args .at) n (lower s) g (omega (arith, from s, c .before .before .before .if1 .left)) (c .before .before .if2 .taken) (c .before .if3 .taken) (c .small .ensures) }
 
 mul-result : tie.Need-mul-result
 mul-result c = search needs
@@ -57,7 +57,7 @@ element-copy-out-result c = search needs
 returns-3 : tie.Need-returns-3
 returns-3 c =
     let s : tie.Start = c .before .before .before .before .before in
-    record { gives = λ n b g. at-value (P s) (s .args .at) n (lower s) g (over (from s) (c .before .before .before .if1 .left)) (c .before .before .if2 .taken) (c .before .if3 .left) refl }
+    record { gives = λ n b g. at-value (P s) (s .args .at) n (lower s) g (omega (arith, from s, c .before .before .before .if1 .left)) (c .before .before .if2 .taken) (c .before .if3 .left) refl }
 
 mul-apply : tie.Need-mul-apply
 mul-apply c = search needs
