@@ -322,7 +322,19 @@ static void rule_n(void)
 }
 
 /* The codes of nodes, crates/rules/specs/Pool.antt. */
-enum { N = 0, INTEGER = 1, N_OP = 16, REST_OP = 32, NOT = 48, PICK = 49, VALUE_OP = 64, OP = 80, CHOICE = 96, TERNARY = 112, OPERATORS = 13 };
+enum {
+    OPERATORS = 13,
+    N = 0,
+    INTEGER,
+    N_OP,
+    REST_OP = N_OP + OPERATORS,
+    NOT = REST_OP + OPERATORS,
+    PICK,
+    VALUE_OP,
+    OP = VALUE_OP + OPERATORS,
+    CHOICE = OP + OPERATORS,
+    TERNARY
+};
 
 static void put_node(size_t at, int code, size_t x, size_t y, uint64_t value)
 {
@@ -405,7 +417,8 @@ static void altered(int code)
             put_leaf(at + 2);
             put_node(at + 3, code, at + 1, at, 5);
         }
-        call_all("code 112, second operand deep");
+        snprintf(name, sizeof name, "code %d, second operand deep", code);
+        call_all(name);
     }
 }
 

@@ -131,11 +131,9 @@ pub fn answer(file: &[u8], r: &Record, n: Option<u64>, too_few: bool, find: impl
     caller(0)
 }
 
-// Codes that a record may have, those of leaves first.
-const CODES: [u8; 58] = [
-    0, 1, 16, 17, 18, 19, 20, 21, 22, 23, 24, 25, 26, 27, 28, 32, 33, 34, 35, 36, 37, 38, 39, 40, 41, 42, 43, 44, 48, 49, 64, 65, 66, 67,
-    68, 69, 70, 71, 72, 73, 74, 75, 76, 80, 81, 82, 83, 84, 85, 86, 87, 88, 89, 90, 91, 92, 96, 112,
-];
+// How many codes a record may have, and how many of them are leaves, which come first.
+const CODES: usize = 58;
+const LEAVES: usize = 28;
 
 // A few nodes made anew: any codes and fields, near trees for the most part. One code in a few is any of the 256.
 fn alter_rule(rng: &mut Rng, r: &mut Record) {
@@ -143,7 +141,8 @@ fn alter_rule(rng: &mut Rng, r: &mut Record) {
         r.head.nodes = 1 + rng.below(9);
         let any = if rng.one_in(3) { rng.below(r.head.nodes) } else { 512 };
         for p in 0..r.head.nodes {
-            r.codes[p] = if p == 0 || rng.one_in(3) { CODES[rng.below(28)] } else { *rng.pick(&CODES) };
+            let codes = if p == 0 || rng.one_in(3) { LEAVES } else { CODES };
+            r.codes[p] = rng.below(codes) as u8;
             if p == any {
                 r.codes[p] = rng.below(256) as u8;
             }

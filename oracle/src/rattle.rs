@@ -279,18 +279,18 @@ impl Record {
         let field = |j| self.places[2 * at + j];
         let (small, before) = (Part::Integer(field(0) as u64), Part::At(at.wrapping_sub(1)));
         let (x, y) = (Part::At(field(0) as usize), Part::At(field(1) as usize));
-        let op = (code % 16) as usize;
+        let op = |first: u8| (code - first) as usize;
         Some(match code {
             0 => Node::Leaf(Part::N),
             1 => Node::Leaf(value),
-            16..=28 => Node::Op(op, Part::N, value),
-            32..=44 => Node::Op(op, Part::Rest(field(0) as u64), value),
-            48 => Node::Not(before),
-            49 => Node::Ternary(before, value, small),
-            64..=76 => Node::Op(op, before, value),
-            80..=92 => Node::Op(op, x, before),
-            96 => Node::Ternary(x, value, before),
-            112 => Node::Ternary(x, y, before),
+            2..=14 => Node::Op(op(2), Part::N, value),
+            15..=27 => Node::Op(op(15), Part::Rest(field(0) as u64), value),
+            28 => Node::Not(before),
+            29 => Node::Ternary(before, value, small),
+            30..=42 => Node::Op(op(30), before, value),
+            43..=55 => Node::Op(op(43), x, before),
+            56 => Node::Ternary(x, value, before),
+            57 => Node::Ternary(x, y, before),
             _ => return None,
         })
     }

@@ -9,6 +9,7 @@ use lib.Seq.{drop-cons}
 use borrow.Author.Tests.{lt-ltb, le-ltb}
 use Rattle.rules.specs.Tree.{rem}
 use Rattle.rules.specs.Operator.{opCode}
+use Rattle.rules.specs.Pool.{pairOp, ternaryNode}
 use Rattle.reading_scan.specs.Scan.{indexOf}
 use Rattle.reading_levels.specs.Levels.{row, rows, binary, rowAt, rowOf, codeOf}
 
@@ -20,7 +21,7 @@ abbrev pub widths : List ℕ
 widths = 2 ∷ 2 ∷ 1 ∷ 2 ∷ 1 ∷ 2 ∷ 1 ∷ 2 ∷ 2 ∷ 1 ∷ []
 
 abbrev pub codes : List ℕ
-codes = 86 ∷ 87 ∷ 112 ∷ 82 ∷ 84 ∷ 83 ∷ 85 ∷ 80 ∷ 81 ∷ 88 ∷ []
+codes = (pairOp + 6) ∷ (pairOp + 7) ∷ ternaryNode ∷ (pairOp + 2) ∷ (pairOp + 4) ∷ (pairOp + 3) ∷ (pairOp + 5) ∷ pairOp ∷ (pairOp + 1) ∷ (pairOp + 8) ∷ []
 
 pub record Right (l : ℕ) : Type 0 where
   pub width : getD widths l 0 ≡ length (rowAt l .pattern)

@@ -6,6 +6,7 @@ use mathlib.Core.List.{List, [], _∷_}
 use lib.ListN.{length, getD}
 use lib.Dec.{ltb}
 use Rattle.rules.specs.Tree.{Op, cmp, and, or, rem, eq, ne, ge, le, gt, lt}
+use Rattle.rules.specs.Pool.{ternaryNode}
 use Rattle.rules.specs.Store.{nodeCode}
 use Rattle.reading_scan.specs.Scan.{indexOf}
 
@@ -51,4 +52,4 @@ rowOf (r ∷ rs) s = elim (found (r .pattern) s) [ true ↦ 0 | false ↦ suc (r
 -- the code of the node that a row makes
 abbrev pub codeOf : Kind → ℕ
 codeOf (binary op) = nodeCode op
-codeOf ternary = 112
+codeOf ternary = ternaryNode

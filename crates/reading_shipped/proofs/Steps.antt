@@ -9,7 +9,7 @@ use lib.ListN.{length, getD, take, drop, length-take, length-drop}
 use lib.Dec.{eqb}
 use borrow.Author.Tests.{eq-eqb, ne-eqb, lt-ltb, le-ltb}
 use Rattle.rules.specs.Tree.{var, Op, cmp, and, or, rem, eq, ne, ge, le, gt, lt, Reading, tree, none}
-use Rattle.rules.specs.Pool.{Pool}
+use Rattle.rules.specs.Pool.{Pool, ternaryNode}
 use Rattle.rules.specs.Store.{nodeCode}
 use Rattle.rules.proofs.Operators.{code-in}
 use Rattle.rules.specs.declared.Nodes.{Nodes}
@@ -140,11 +140,11 @@ module _ (s : List ℕ) {k : ℕ} {P Q : Pool} {r : Nodes} where
   middle-gives a e w = wider refl (simp length-take (omega arith)) w
 
 -- a row: what its code says of its kind
-no-such-code : (op : Op) → nodeCode op ≡ 112 → ⊥
+no-such-code : (op : Op) → nodeCode op ≡ ternaryNode → ⊥
 no-such-code op e = omega (arith, code-in op)
 
 module _ (x : Row) (s : List ℕ) (i code : ℕ) (place : i ≡ indexOf (x .pattern) s) (coded : code ≡ codeOf (x .kind)) where
-  pub cut-ternary : code ≡ 112 → cutAt shipped x s ≡ choose shipped i (indexOf colon s) s
+  pub cut-ternary : code ≡ ternaryNode → cutAt shipped x s ≡ choose shipped i (indexOf colon s) s
   cut-ternary h = rw (← place) (go (x .kind) coded)
     where
       go : (d : Kind) → code ≡ codeOf d → cut shipped d i (length (x .pattern)) s ≡ choose shipped i (indexOf colon s) s
@@ -157,7 +157,7 @@ module _ (x : Row) (s : List ℕ) (i code : ℕ) (place : i ≡ indexOf (x .patt
     pub is : (w : ℕ) → w ≡ length (x .pattern) → cutAt shipped x s ≡ two op (shipped (take i s)) (shipped (drop (i + w) s))
     pub code-is : code ≡ nodeCode op
 
-  pub cut-binary : (code ≡ 112 → ⊥) → Binary
+  pub cut-binary : (code ≡ ternaryNode → ⊥) → Binary
   cut-binary h = go (x .kind) refl coded
     where
       go : (d : Kind) → x .kind ≡ d → code ≡ codeOf d → Binary

@@ -3,7 +3,7 @@ use Prim.Native.Nat.{ℕ, _+_, _-_, _<_, _≤_}
 use mathlib.Core.Path.{_≡_, refl, ap, _∙_}
 use native.Mathlib.Omega.{arith}
 use Rattle.rules.specs.Tree.{Tree, var, int, nay, bin, cond, Op, and, Reading, tree, none}
-use Rattle.rules.specs.Pool.{Pool}
+use Rattle.rules.specs.Pool.{Pool, nayNode, ternaryNode}
 use Rattle.rules.specs.Store.{size, store, push, nodeCode}
 use Rattle.rules.specs.declared.Nodes.{Nodes}
 use Rattle.rules.specs.declared.Nodes.the-variants.{Read, NoReading}
@@ -73,7 +73,7 @@ gives-var h e = record { wrote = record { answer = refl; stored = e; small = h }
 -- the nodes of the operands one after the other, and the node over them
 over-one :
     (n k a m : ℕ) (P Q R : Pool) (t : Tree) → m ≡ k + size t → R ≡ store t k P → size t ≤ a → a + 1 ≤ n →
-    Q ≡ push R m 48 0 0 0 → Stored (nay t) n k P Q (Read (m + 1))
+    Q ≡ push R m nayNode 0 0 0 → Stored (nay t) n k P Q (Read (m + 1))
 unfolding size store
 over-one n k a m P Q R t mf ms mt h p = record { answer = ap Read (omega arith); stored = p ∙ rw (mf, ms); small = omega arith }
 
@@ -88,7 +88,7 @@ over-two op n k a b m e P Q R S t u mf ms mt ef es et h p =
 over-three :
     (n k a b d m e f : ℕ) (P Q R S T : Pool) (t u v : Tree) → m ≡ k + size t → R ≡ store t k P → size t ≤ a →
     e ≡ m + size u → S ≡ store u m R → size u ≤ b → f ≡ e + size v → T ≡ store v e S → size v ≤ d →
-    a + b + d + 1 ≤ n → Q ≡ push T f 112 (m - 1) (e - 1) 0 → Stored (cond t u v) n k P Q (Read (f + 1))
+    a + b + d + 1 ≤ n → Q ≡ push T f ternaryNode (m - 1) (e - 1) 0 → Stored (cond t u v) n k P Q (Read (f + 1))
 unfolding size store
 over-three n k a b d m e f P Q R S T t u v mf ms mt ef es et ff fs ft h p =
     record { answer = ap Read (omega arith); stored = p ∙ rw (ff, fs, ef, es, mf, ms); small = omega arith }
@@ -98,7 +98,7 @@ module _ {x : Reading} {a k : ℕ} {P R : Pool} {r : Nodes} (w : Gives x a k P R
   one-none e = gives-none (rw (refused w e))
 
   pub one-some :
-      {n m : ℕ} {Q : Pool} {i : Nodes} → r ≡ Read m → a + 1 ≤ n → i ≡ Read (m + 1) → Q ≡ push R m 48 0 0 0 →
+      {n m : ℕ} {Q : Pool} {i : Nodes} → r ≡ Read m → a + 1 ≤ n → i ≡ Read (m + 1) → Q ≡ push R m nayNode 0 0 0 →
       Gives (one x) n k P Q i
   one-some {n} {m} {Q} {i} e h j p =
       let g : Taken x a k P R m = taken w e in
@@ -135,7 +135,7 @@ module _ {x : Reading} {a k : ℕ} {P R : Pool} {r : Nodes} (w : Gives x a k P R
 
       pub three-all :
           {n g : ℕ} {Q : Pool} {j : Nodes} → o ≡ Read g → a + b + c + 1 ≤ n → j ≡ Read (g + 1) →
-          Q ≡ push T g 112 (m - 1) (f - 1) 0 → Gives (three x y z) n k P Q j
+          Q ≡ push T g ternaryNode (m - 1) (f - 1) 0 → Gives (three x y z) n k P Q j
       three-all {n} {g} {Q} {j} i h y p =
           let s = taken w e in
           let t = taken v d in

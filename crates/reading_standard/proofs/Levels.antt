@@ -9,7 +9,7 @@ use lib.ListN.{length, drop}
 use lib.Dec.{eqb}
 use borrow.Author.Tests.{eq-eqb, ne-eqb}
 use Rattle.rules.specs.Tree.{Tree, bin, cond, Op}
-use Rattle.rules.specs.Pool.{Pool}
+use Rattle.rules.specs.Pool.{Pool, ternaryNode}
 use Rattle.rules.specs.Store.{size, store, push, nodeCode}
 use Rattle.reading_grammar.specs.Grammar.{Token, sign, number, mark, rank, loosest, full}
 use Rattle.reading_grammar.specs.Tokens.{tokens}
@@ -68,7 +68,7 @@ joined op at e h k m w q c x t u O P R S d f ew st g ec ex p = record {
 }
 
 chosen : (at e i p h k m v w q x y : ℕ) (s : List ℕ) (t u n : Tree) (O P R S Q : Pool) → Before t h at k m O P → at < e → v ≡ m + size u → R ≡ store u m P → e + size u ≤ i → i < p
-    → w ≡ v + size n → S ≡ store n v R → p + size n ≤ q → q ≤ length s → x ≡ m - 1 → y ≡ v - 1 → Q ≡ push S w 112 x y 0
+    → w ≡ v + size n → S ≡ store n v R → p + size n ≤ q → q ≤ length s → x ≡ m - 1 → y ≡ v - 1 → Q ≡ push S w ternaryNode x y 0
     → Done (cond t u n) (tokens (drop q s)) s h k O Q (Got (w + 1) q)
 unfolding size store
 chosen at e i p h k m v w q x y s t u n O P R S Q d f ev sr g j ew ss b l ex ey a = record {
@@ -141,7 +141,7 @@ module _ {s : List ℕ} {j at m : ℕ} {P : Pool} where
       record { read = λ t h k O d. rw (w .is, asks t (tokens (drop e s)) z f, g .is, c .is, level-refused l) refl }
 
   pub ask-ask : {b e v i p n q x y : ℕ} {R S Q : Pool} → Step s at (mark b) e → b ≡ 63 → j ≡ loosest → LevelWrote full s e m P R (Got v i) → Step s i (mark 58) p
-      → LevelWrote full s p v R S (Got n q) → x ≡ m - 1 → y ≡ v - 1 → Q ≡ push S n 112 x y 0 → MoreWrote j s at m P Q (Got (n + 1) q)
+      → LevelWrote full s p v R S (Got n q) → x ≡ m - 1 → y ≡ v - 1 → Q ≡ push S n ternaryNode x y 0 → MoreWrote j s at m P Q (Got (n + 1) q)
   ask-ask {b} {e} {v} {i} {p} {n} {q} {x} {y} {R} {S} {Q} w o f a c l ex ey u =
       let g = level-taken a in
       let r = level-taken l in

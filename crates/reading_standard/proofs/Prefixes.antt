@@ -6,7 +6,7 @@ use native.Mathlib.Omega.{arith}
 use lib.ListN.{length, drop}
 use borrow.Author.Tests.{ne-eqb, lt-ltb, le-ltb}
 use Rattle.rules.specs.Tree.{Tree, nay, Op}
-use Rattle.rules.specs.Pool.{Pool}
+use Rattle.rules.specs.Pool.{Pool, nayNode}
 use Rattle.rules.specs.Store.{size, store, push}
 use Rattle.reading_grammar.specs.Grammar.{Token, sign, number, mark, full}
 use Rattle.reading_grammar.specs.Tokens.{tokens}
@@ -22,7 +22,7 @@ other : (b : ℕ) (r : List Token) → (b ≡ 110 → ⊥) → (b ≡ 33 → ⊥
 other b r i j k = prefix-mark b r ∙ (left-if _ _ (ne-eqb b 110 i) ∙ (left-if _ _ (ne-eqb b 33 j) ∙ left-if _ _ (ne-eqb b 40 k)))
 
 negated : (at e k m q : ℕ) (s : List ℕ) (t : Tree) (P R Q : Pool) → at < e → m ≡ k + size t → R ≡ store t k P → e + size t ≤ q → q ≤ length s
-    → Q ≡ push R m 48 0 0 0 → Done (nay t) (tokens (drop q s)) s at k P Q (Got (m + 1) q)
+    → Q ≡ push R m nayNode 0 0 0 → Done (nay t) (tokens (drop q s)) s at k P Q (Got (m + 1) q)
 unfolding size store
 negated at e k m q s t P R Q f em st g l p = record {
   next = q;
@@ -60,7 +60,7 @@ module _ {s : List ℕ} {at k : ℕ} {P Q : Pool} where
   pub not-bad : {b e : ℕ} {R : Pool} → Step s at (mark b) e → b ≡ 33 → LevelWrote 0 s e k P R Bad → PrefixWrote s at k P Q Bad
   not-bad {b} {e} w i v = record { read = rw (w .is, i, prefix-mark 33 (tokens (drop e s)), ← level-zero (tokens (drop e s)), level-refused v) refl }
 
-  pub not-not : {b e m q : ℕ} {R : Pool} → Step s at (mark b) e → b ≡ 33 → LevelWrote 0 s e k P R (Got m q) → Q ≡ push R m 48 0 0 0
+  pub not-not : {b e m q : ℕ} {R : Pool} → Step s at (mark b) e → b ≡ 33 → LevelWrote 0 s e k P R (Got m q) → Q ≡ push R m nayNode 0 0 0
       → PrefixWrote s at k P Q (Got (m + 1) q)
   not-not {b} {e} {m} {q} {R} w i v p =
       let g = level-taken v in

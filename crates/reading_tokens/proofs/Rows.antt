@@ -12,6 +12,7 @@ use lib.Dec.{eqb, leb, ltb}
 use borrow.Author.Tests.{eq-eqb, ne-eqb, eqb-true, leb-true, ltb-true, not-true}
 use Rattle.rules.specs.Tree.{Op, cmp, and, or, rem, eq, ne, ge, le, gt, lt, calc, div, plus, minus, times}
 use Rattle.rules.specs.Operator.{opCode}
+use Rattle.rules.specs.Pool.{pairOp}
 use Rattle.rules.specs.Store.{nodeCode}
 use Rattle.reading_grammar.specs.Grammar.{sign, rank}
 use Rattle.reading_grammar.specs.Tokens.{findTwo, twos, findOne, ones}
@@ -26,13 +27,13 @@ abbrev pub seconds : List ℕ
 seconds = 61 ∷ 61 ∷ 61 ∷ 61 ∷ 38 ∷ 124 ∷ []
 
 abbrev pub pairCodes : List ℕ
-pairCodes = 80 ∷ 81 ∷ 83 ∷ 82 ∷ 86 ∷ 87 ∷ []
+pairCodes = pairOp ∷ (pairOp + 1) ∷ (pairOp + 3) ∷ (pairOp + 2) ∷ (pairOp + 6) ∷ (pairOp + 7) ∷ []
 
 abbrev pub singles : List ℕ
 singles = 37 ∷ 47 ∷ 42 ∷ 43 ∷ 45 ∷ 60 ∷ 62 ∷ []
 
 abbrev pub singleCodes : List ℕ
-singleCodes = 88 ∷ 89 ∷ 92 ∷ 90 ∷ 91 ∷ 85 ∷ 84 ∷ []
+singleCodes = (pairOp + 8) ∷ (pairOp + 9) ∷ (pairOp + 12) ∷ (pairOp + 10) ∷ (pairOp + 11) ∷ (pairOp + 5) ∷ (pairOp + 4) ∷ []
 
 abbrev pub ranks : List ℕ
 ranks = 4 ∷ 4 ∷ 3 ∷ 3 ∷ 3 ∷ 3 ∷ 5 ∷ 6 ∷ 1 ∷ 1 ∷ 2 ∷ 2 ∷ 1 ∷ []

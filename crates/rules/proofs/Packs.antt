@@ -1,8 +1,8 @@
--- A packed tree is unpacked to the tree itself, its codes are known and those of their operands, and it has no more nodes than the tree.
+-- A packed tree is unpacked to the tree itself, its codes are those of their operands, and it has no more nodes than the tree.
 use mathlib.Core.Path.{_≡_, refl, ap, _∙_}
 use mathlib.Core.Bool.{Bool, true, false, _&&_}
 use mathlib.Core.Option.{some}
-use Prim.Native.Nat.{ℕ, _+_, _-_, _<_, _≤_, _%_, _/_}
+use Prim.Native.Nat.{ℕ, _+_, _-_, _<_, _≤_}
 use native.Mathlib.Omega.{arith}
 use lib.Dec.{ltb}
 use Rattle.rules.specs.Tree.{Tree, var, int, nay, bin, cond, Op, cmp, and, or, rem, div, calc}
@@ -13,35 +13,35 @@ use Rattle.rules.specs.declared.Small.{Small}
 use Rattle.rules.specs.declared.Small.the-variants as small
 use Rattle.rules.specs.declared.Left.{Left}
 use Rattle.rules.specs.declared.Left.the-variants as left
-use Rattle.rules.specs.Pool.{known}
+use Rattle.rules.specs.Pool.{nOp, restOp, nayNode, valueOp, pairOp, ternaryNode}
 use Rattle.rules.specs.Pool as pool
 use Rattle.rules.specs.Store.{size}
 use Rattle.rules.specs.Pack.{Packed, leaf, one, two, three, unpack, numberOf, smallBy, smallOf, isCount, isRem, restBy, leftOf, packBin, packCond, pack, nodes, packedSize}
 use Rattle.rules.proofs.Operators.{op-code, code-in}
-use Rattle.rules.proofs.Trees.{listed, leaf-op, leaf-rest, one-op, two-op}
+use Rattle.rules.proofs.Trees.{leaf-op, leaf-rest, one-op, two-op}
 
--- each code is known, and has as many operands as there are
+-- each code has as many operands as there are
 abbrev pub Fits : Packed → Type 0
-Fits (leaf c m v) = (c < 48) × (known c ≡ true)
-Fits (one c m v x) = (47 < c) × (c < 80) × Fits x × (known c ≡ true)
-Fits (two c v x y) = (79 < c) × (c < 112) × Fits x × Fits y × (known c ≡ true)
+Fits (leaf c m v) = c < nayNode
+Fits (one c m v x) = (nayNode ≤ c) × (c < pairOp) × Fits x
+Fits (two c v x y) = (pairOp ≤ c) × (c < ternaryNode) × Fits x × Fits y
 Fits (three x y z) = Fits x × Fits y × Fits z
 
 -- an operator's code in each of its groups
 op-of : (op : Op) (c : ℕ) → c ≡ opCode op → opOf c ≡ some op
 op-of op c e = rw e (op-code op)
 
-is-op : (op : Op) (m v : ℕ) → pool.leaf (16 + opCode op) m v ≡ bin op var (int v)
-is-op op m v = let h = code-in op in leaf-op _ m v (op-of op ((16 + opCode op) % 16) (omega arith)) (omega arith) (omega arith)
+is-op : (op : Op) (m v : ℕ) → pool.leaf (nOp + opCode op) m v ≡ bin op var (int v)
+is-op op m v = let h = code-in op in leaf-op _ m v (op-of op (nOp + opCode op - nOp) (omega arith)) (omega arith) (omega arith)
 
-is-rest : (op : Op) (m v : ℕ) → pool.leaf (32 + opCode op) m v ≡ bin op (bin rem var (int m)) (int v)
-is-rest op m v = let h = code-in op in leaf-rest _ m v (op-of op ((32 + opCode op) % 16) (omega arith)) (omega arith)
+is-rest : (op : Op) (m v : ℕ) → pool.leaf (restOp + opCode op) m v ≡ bin op (bin rem var (int m)) (int v)
+is-rest op m v = let h = code-in op in leaf-rest _ m v (op-of op (restOp + opCode op - restOp) (omega arith)) (omega arith)
 
-is-one : (op : Op) (m v : ℕ) (x : Tree) → pool.one (64 + opCode op) m v x ≡ bin op x (int v)
-is-one op m v x = let h = code-in op in one-op _ m v x x (op-of op ((64 + opCode op) % 16) (omega arith)) (omega arith)
+is-one : (op : Op) (m v : ℕ) (x : Tree) → pool.one (valueOp + opCode op) m v x ≡ bin op x (int v)
+is-one op m v x = let h = code-in op in one-op _ m v x (op-of op (valueOp + opCode op - valueOp) (omega arith)) (omega arith)
 
-pub is-two : (op : Op) (v : ℕ) (x y : Tree) → pool.two (80 + opCode op) v x y ≡ bin op x y
-is-two op v x y = let h = code-in op in two-op _ v v x y (op-of op ((80 + opCode op) % 16) (omega arith)) (omega arith)
+pub is-two : (op : Op) (v : ℕ) (x y : Tree) → pool.two (pairOp + opCode op) v x y ≡ bin op x y
+is-two op v x y = let h = code-in op in two-op _ v x y (op-of op (pairOp + opCode op - pairOp) (omega arith)) (omega arith)
 
 -- what was found in an operand is the operand
 abbrev NumberIs : Tree → Number → Type 0
@@ -111,17 +111,17 @@ bin-right : (op : Op) (s t : Tree) (l : Left) (n : Number) (x y : Packed) → Le
     → Right (bin op s t) (packBin op l n x y)
 unfolding unpack nodes size
 bin-right op s t left.Count (number.Is v) x y d e f g =
-    let h = code-in op in record { same = rw (d, e) (is-op op 0 v); fits = (omega arith, listed (16 + opCode op) 1 (omega arith) (omega arith)); few = omega arith }
+    let h = code-in op in record { same = rw (d, e) (is-op op 0 v); fits = omega arith; few = omega arith }
 bin-right op s t (left.Rest m) (number.Is v) x y d e f g =
-    let h = code-in op in record { same = rw (d, e) (is-rest op m v); fits = (omega arith, listed (32 + opCode op) 2 (omega arith) (omega arith)); few = omega arith }
+    let h = code-in op in record { same = rw (d, e) (is-rest op m v); fits = omega arith; few = omega arith }
 bin-right op s t left.Other (number.Is v) x y d e f g =
     let h = code-in op in
-    record { same = rw (e, f .same) (is-one op 0 v s); fits = (omega arith, omega arith, f .fits, listed (64 + opCode op) 4 (omega arith) (omega arith)); few = omega (arith, f .few) }
+    record { same = rw (e, f .same) (is-one op 0 v s); fits = (omega arith, omega arith, f .fits); few = omega (arith, f .few) }
 bin-right op s t l number.Other x y d e f g =
     let h = code-in op in
     record {
       same = rw (f .same, g .same) (is-two op 0 s t);
-      fits = (omega arith, omega arith, f .fits, g .fits, listed (80 + opCode op) 5 (omega arith) (omega arith));
+      fits = (omega arith, omega arith, f .fits, g .fits);
       few = omega (arith, f .few, g .few);
     }
 
@@ -129,10 +129,10 @@ cond-right : (s t u : Tree) (n : Number) (o : Small) (x y z : Packed) → Number
     → Right (cond s t u) (packCond n o x y z)
 unfolding unpack nodes size
 cond-right s t u (number.Is v) (small.Is m) x y z d e f g h =
-    record { same = rw (d, e, f .same); fits = (omega arith, omega arith, f .fits, refl); few = omega (arith, f .few) }
+    record { same = rw (d, e, f .same); fits = (omega arith, omega arith, f .fits); few = omega (arith, f .few) }
 cond-right s t u (number.Is v) small.Other x y z d e f g h = record {
   same = rw (d, f .same, h .same);
-  fits = (omega arith, omega arith, f .fits, h .fits, refl);
+  fits = (omega arith, omega arith, f .fits, h .fits);
   few = omega (arith, f .few, h .few);
 }
 cond-right s t u number.Other o x y z d e f g h = record {
@@ -143,10 +143,10 @@ cond-right s t u number.Other o x y z d e f g h = record {
 
 pub right : (t : Tree) → Right t (pack t)
 unfolding pack unpack nodes size
-right var = record { same = refl; fits = (omega arith, refl); few = omega arith }
-right (int v) = record { same = refl; fits = (omega arith, refl); few = omega arith }
+right var = record { same = refl; fits = omega arith; few = omega arith }
+right (int v) = record { same = refl; fits = omega arith; few = omega arith }
 right (nay t) =
-    let f = right t in record { same = rw (f .same); fits = (omega arith, omega arith, f .fits, refl); few = omega (arith, f .few) }
+    let f = right t in record { same = rw (f .same); fits = (omega arith, omega arith, f .fits); few = omega (arith, f .few) }
 right (bin op s t) = bin-right op s t (leftOf s) (numberOf t) (pack s) (pack t) (left-is s) (number-is t) (right s) (right t)
 right (cond s t u) =
     cond-right s t u (numberOf t) (smallOf u) (pack s) (pack t) (pack u) (number-is t) (small-is u) (right s) (right t) (right u)

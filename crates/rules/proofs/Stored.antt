@@ -8,7 +8,7 @@ use lib.ListN.{length, getD, set, replicate, length-set, length-replicate}
 use lib.Seq.{getD-set-same, getD-set-other}
 use Rattle.rules.specs.Tree.{Tree, cond, defaultTree}
 use Rattle.rules.specs.Operator.{opCode}
-use Rattle.rules.specs.Pool.{Pool, pool, code, field, value, build, below, node, treeOf}
+use Rattle.rules.specs.Pool.{Pool, pool, code, field, value, build, below, node, treeOf, nOp, ternaryNode}
 use Rattle.rules.specs.Pool as at
 use Rattle.rules.specs.Store.{push, zeros, blank}
 use Rattle.rules.specs.Pack.{Packed, leaf, one, two, three, unpack, pack, nodes, keep, packedSize, packed}
@@ -131,7 +131,7 @@ same-cond p q r = cc
 pub holds-at : (x : Packed) (k : ℕ) (P : Pool) (p : ℕ) → Fits x → p + 1 ≡ k + nodes x → Long P (k + nodes x) → treeOf (keep x k P) p ≡ unpack x
 unfolding keep nodes unpack
 holds-at (leaf c m v) k P p f e l =
-    let d : p ≡ k = omega arith in rw d (tree-at (pushed P k c m 0 v l) ∙ build-leaf c m v _ _ _ (f .0))
+    let d : p ≡ k = omega arith in rw d (tree-at (pushed P k c m 0 v l) ∙ build-leaf c m v _ _ _ f)
 holds-at (one c m v x) k P p f e l =
     let n = k + nodes x in
     let Q = keep x k P in
@@ -165,13 +165,13 @@ holds-at (three x y z) k P p f e l =
     let R = keep x k P in
     let S = keep y m R in
     let Q = keep z r S in
-    let X = push Q n 112 (m - 1) (r - 1) 0 in
+    let X = push Q n ternaryNode (m - 1) (r - 1) 0 in
     let d : p ≡ n = omega arith in
     let s = nodes-pos x in
     let t = nodes-pos y in
     let u = nodes-pos z in
-    rw d (tree-at (pushed Q n 112 (m - 1) (r - 1) 0 (keep-long z r S (keep-long y m R (keep-long x k P (less (n + 1) (omega arith) l)))))
-    ∙ build-three 112 (m - 1) 0 _ _ _ (omega arith)
+    rw d (tree-at (pushed Q n ternaryNode (m - 1) (r - 1) 0 (keep-long z r S (keep-long y m R (keep-long x k P (less (n + 1) (omega arith) l)))))
+    ∙ build-three ternaryNode (m - 1) 0 _ _ _ (omega arith)
     ∙ same-cond
     (earlier R X n m (m - 1) (unpack x) (λ i j. same-as (push-below Q n _ _ _ _ i (omega arith))
     (same-as (keep-below z r S i (omega arith)) (keep-below y m R i j))) (omega arith) (omega arith)
@@ -205,9 +205,9 @@ kept-tree x f h =
     let s = nodes-pos x in holds-at x 0 blank (nodes x - 1) f (omega arith) (less (0 + nodes x) (omega arith) long-blank)
 
 -- the default rule is one node
-pub default-node : {P Q : Pool} → Q ≡ push P 0 17 0 0 1 → P ≡ blank → Q ≡ packed defaultTree
+pub default-node : {P Q : Pool} → Q ≡ push P 0 (nOp + 1) 0 0 1 → P ≡ blank → Q ≡ packed defaultTree
 unfolding packed keep pack opCode
-default-node e d = e ∙ ap (λ (R : Pool). push R 0 17 0 0 1) d
+default-node e d = e ∙ ap (λ (R : Pool). push R 0 (nOp + 1) 0 0 1) d
 
 pub packed-pos : (t : Tree) → 0 < packedSize t
 unfolding packedSize

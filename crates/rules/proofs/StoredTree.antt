@@ -12,7 +12,7 @@ use Rattle.rules.specs.Tree.{Tree}
 use Rattle.rules.specs.Value.{evalTree}
 use Rattle.rules.specs.Range.{rateTree, fitsRange}
 use Rattle.rules.specs.Answer.{formOf, rangeOf, fitting, resolvedOf, ratedOf, fitOf}
-use Rattle.rules.specs.Pool.{Pool, code, known, fields, operandsTo, operands, allBelow, member, distinct, used, shaped, treeOf, isTree}
+use Rattle.rules.specs.Pool.{Pool, code, fields, operandsTo, operands, allBelow, member, distinct, used, shaped, treeOf, isTree, nayNode, pairOp, ternaryNode}
 use Rattle.rules.specs.Store.{push, size, blank}
 use Rattle.rules.specs.Pack.{Packed, leaf, one, two, three, pack, nodes, keep, packedSize, packed}
 use Rattle.rules.proofs.Trees.{member-tail}
@@ -22,7 +22,7 @@ use Rattle.rules.proofs.Stored.{nodes-pos, Long, less, Same, Node, push
 
 -- pools that agree below k pass the test there alike
 fields-most : (c : ℕ) → fields c ≤ 2
-fields-most c = go (ltb c 80) (ltb c 112)
+fields-most c = go (ltb c pairOp) (ltb c ternaryNode)
   where
     go : (a b : Bool) → elim a [ true ↦ 0 | false ↦ elim b [ true ↦ 1 | false ↦ 2 ] ] ≤ 2
     go true b = omega arith
@@ -35,12 +35,12 @@ operands-to P Q p zero h s = refl
 operands-to P Q p (suc a) h s = rw (s .field-same a (omega arith), operands-to P Q p a (omega arith) s)
 
 abbrev by : Pool → ℕ → ℕ → List ℕ
-by Q p c = elim (ltb c 48) [ true ↦ [] | false ↦ operandsTo Q p (fields c) ]
+by Q p c = elim (ltb c nayNode) [ true ↦ [] | false ↦ operandsTo Q p (fields c) ]
 
 operands-same : (P Q : Pool) (p : ℕ) → Same P Q p → operands P p ≡ operands Q p
 unfolding operands
 operands-same P Q p s =
-    ap (λ (l : List ℕ). elim (ltb (code P p) 48) [ true ↦ [] | false ↦ l ]) (operands-to P Q p (fields (code P p)) (fields-most (code P p)) s)
+    ap (λ (l : List ℕ). elim (ltb (code P p) nayNode) [ true ↦ [] | false ↦ l ]) (operands-to P Q p (fields (code P p)) (fields-most (code P p)) s)
     ∙ ap (by Q p) (s .code-same)
 
 used-same : (P Q : Pool) (k : ℕ) → ((i : ℕ) → i < k → Same P Q i) → used P k ≡ used Q k
@@ -97,32 +97,32 @@ further g f l = record {
 
 -- the operands of a node that was just pushed
 module _ {X : Pool} {k c x y v : ℕ} (n : Node X k c x y v) where
-  ops-leaf : c < 48 → operands X k ≡ []
+  ops-leaf : c < nayNode → operands X k ≡ []
   unfolding operands
-  ops-leaf h = rw (operands, n .code-is, lt-ltb c 48 h)
+  ops-leaf h = rw (operands, n .code-is, lt-ltb c nayNode h)
 
-  ops-to : (a : ℕ) → 47 < c → fields c ≡ a → operands X k ≡ operandsTo X k a
+  ops-to : (a : ℕ) → nayNode ≤ c → fields c ≡ a → operands X k ≡ operandsTo X k a
   unfolding operands
-  ops-to a h e = rw (operands, n .code-is, le-ltb c 48 h) (ap (operandsTo X k) (ap fields (n .code-is) ∙ e))
+  ops-to a h e = rw (operands, n .code-is, le-ltb c nayNode h) (ap (operandsTo X k) (ap fields (n .code-is) ∙ e))
 
-  ops-one : 47 < c → c < 80 → operands X k ≡ (k - 1) ∷ []
+  ops-one : nayNode ≤ c → c < pairOp → operands X k ≡ (k - 1) ∷ []
   unfolding operandsTo
-  ops-one h l = ops-to 0 h (rw (fields, lt-ltb c 80 l))
+  ops-one h l = ops-to 0 h (rw (fields, lt-ltb c pairOp l))
 
-  ops-two : 79 < c → c < 112 → operands X k ≡ x ∷ (k - 1) ∷ []
+  ops-two : pairOp ≤ c → c < ternaryNode → operands X k ≡ x ∷ (k - 1) ∷ []
   unfolding operandsTo
-  ops-two h l = ops-to 1 (omega arith) (rw (fields, le-ltb c 80 h, lt-ltb c 112 l)) ∙ rw (n .first-is)
+  ops-two h l = ops-to 1 (omega arith) (rw (fields, le-ltb c pairOp h, lt-ltb c ternaryNode l)) ∙ rw (n .first-is)
 
-  ops-three : 111 < c → operands X k ≡ y ∷ x ∷ (k - 1) ∷ []
+  ops-three : ternaryNode ≤ c → operands X k ≡ y ∷ x ∷ (k - 1) ∷ []
   unfolding operandsTo
-  ops-three h = ops-to 2 (omega arith) (rw (fields, le-ltb c 80 (omega arith), le-ltb c 112 h)) ∙ rw (n .first-is, n .second-is)
+  ops-three h = ops-to 2 (omega arith) (rw (fields, le-ltb c pairOp (omega arith), le-ltb c ternaryNode h)) ∙ rw (n .first-is, n .second-is)
 
 -- a node more, over operands that are below it and that none uses
 module _ (P Q : Pool) (k n c x y v : ℕ) where
   abbrev X : Pool
   X = push Q n c x y v
 
-  node-filled : (m : ℕ) (ys : List ℕ) → m ≡ suc n → Long Q (n + 1) → shaped Q n ≡ true → known c ≡ true → operands X n ≡ ys → allBelow n ys ≡ true
+  node-filled : (m : ℕ) (ys : List ℕ) → m ≡ suc n → Long Q (n + 1) → shaped Q n ≡ true → c ≤ ternaryNode → operands X n ≡ ys → allBelow n ys ≡ true
       → Grown (ys ++ used Q n) (used P k) k n → Filled P X k m
   unfolding shaped used
   node-filled m ys e l s h o b g =
@@ -130,7 +130,7 @@ module _ (P Q : Pool) (k n c x y v : ℕ) where
       let w : shaped X n ≡ true = shaped-same X Q n (λ i j. push-below Q n c x y v i j) ∙ s in
       let d : used X m ≡ ys ++ used Q n = rw (e, o, u) in
       record {
-        shape = rw (e, w, o, pushed Q n c x y v l .code-is, h, b);
+        shape = rw (e, w, o, pushed Q n c x y v l .code-is, le-leb c ternaryNode h, b);
         apart = rw d (g .apart);
         above = λ i j. rw d (g .above i (omega arith));
         kept = λ i j. rw d (g .kept i j);
@@ -154,14 +154,14 @@ all-below-three n x y z h l b = rw (lt-ltb x n h, lt-ltb y n l, lt-ltb z n b)
 fill : (x : Packed) (k : ℕ) (P : Pool) → Fits x → Long P (k + nodes x) → Tidy P k → Filled P (keep x k P) k (k + nodes x)
 unfolding keep nodes allBelow
 fill (leaf c m v) k P f l t =
-    node-filled P P k k c m 0 v _ [] (omega arith) l (t .shape) (f .1) (ops-leaf (pushed P k c m 0 v l) (f .0)) refl (bare t)
+    node-filled P P k k c m 0 v _ [] (omega arith) l (t .shape) (omega arith) (ops-leaf (pushed P k c m 0 v l) f) refl (bare t)
 fill (one c m v x) k P f l h =
     let n = k + nodes x in
     let Q = keep x k P in
     let room : Long Q (n + 1) = keep-long x k P (less (n + 1) (omega arith) l) in
     let pos = nodes-pos x in
     let a : Filled P Q k n = fill x k P (f .2) (less n (omega arith) l) h in
-    node-filled P Q k n c m 0 v _ ((n - 1) ∷ []) (omega arith) room (a .shape) (f .3)
+    node-filled P Q k n c m 0 v _ ((n - 1) ∷ []) (omega arith) room (a .shape) (omega (arith, f .1))
     (ops-one (pushed Q n c m 0 v room) (f .0) (f .1))
     (all-below-one n (n - 1) (omega arith))
     (add (grown a) (a .above (n - 1) (omega arith)) (omega arith) (omega arith))
@@ -175,7 +175,7 @@ fill (two c v x y) k P f l h =
     let py = nodes-pos y in
     let a : Filled P R k m = fill x k P (f .2) (less m (omega arith) l) h in
     let b : Filled R Q m n = fill y m R (f .3) (keep-long x k P (less n (omega arith) l)) (tidy a) in
-    node-filled P Q k n c (m - 1) 0 v _ ((m - 1) ∷ (n - 1) ∷ []) (omega arith) room (b .shape) (f .4)
+    node-filled P Q k n c (m - 1) 0 v _ ((m - 1) ∷ (n - 1) ∷ []) (omega arith) room (b .shape) (omega (arith, f .1))
     (ops-two (pushed Q n c (m - 1) 0 v room) (f .0) (f .1))
     (all-below-two n (n - 1) (m - 1) (omega arith) (omega arith))
     (add
@@ -197,8 +197,8 @@ fill (three x y z) k P f l h =
     let a : Filled P R k m = fill x k P (f .0) (less m (omega arith) l) h in
     let b : Filled R S m r = fill y m R (f .1) (keep-long x k P (less r (omega arith) l)) (tidy a) in
     let e : Filled S Q r n = fill z r S (f .2) (keep-long y m R (keep-long x k P (less n (omega arith) l))) (tidy b) in
-    node-filled P Q k n 112 (m - 1) (r - 1) 0 _ ((r - 1) ∷ (m - 1) ∷ (n - 1) ∷ []) (omega arith) room (e .shape) refl
-    (ops-three (pushed Q n 112 (m - 1) (r - 1) 0 room) (omega arith))
+    node-filled P Q k n ternaryNode (m - 1) (r - 1) 0 _ ((r - 1) ∷ (m - 1) ∷ (n - 1) ∷ []) (omega arith) room (e .shape) (omega arith)
+    (ops-three (pushed Q n ternaryNode (m - 1) (r - 1) 0 room) (omega arith))
     (all-below-three n (n - 1) (m - 1) (r - 1) (omega arith) (omega arith) (omega arith))
     (add
     (add

@@ -3,19 +3,19 @@
 use mathlib.Core.Path.{_≡_, refl, sym, ap, _∙_}
 use mathlib.Core.Bool.{Bool, true, false, _&&_}
 use mathlib.Core.List.{List, [], _∷_}
-use mathlib.Core.Logic.{_⊎_, inl, inr, ⊎-elim}
+use mathlib.Core.Logic.{⊎-elim}
 use mathlib.Core.Option.{some}
-use Prim.Native.Nat.{ℕ, zero, suc, _+_, _-_, _*_, _<_, _≤_, _%_, _/_}
+use Prim.Native.Nat.{ℕ, zero, suc, _-_, _<_, _≤_}
 use native.Mathlib.Omega.{arith}
 use native.Mathlib.Nat.{eq-or-lt-of-le, le-of-suc-le-suc}
-use lib.ListN.{getD, length}
+use lib.ListN.{getD}
 use lib.Dec.{ltb, leb}
-use borrow.Author.Tests.{lt-ltb, le-ltb, ltb-true, ltb-false, leb-true, eq-eqb, ne-eqb}
+use borrow.Author.Tests.{lt-ltb, le-ltb, ltb-true, leb-true, eq-eqb, ne-eqb}
 use Rattle.rules.specs.Tree.{Tree, var, int, nay, bin, cond, rem, Op}
-use Rattle.rules.specs.Operator.{operators, opOf, Named}
-use Rattle.rules.specs.Pool.{Pool, pool, code, field, value, rows, known, joined, leaf, one, two, node, build, below, treeAt, treeOf, fields, operandsTo, operands, allBelow, used, member, shaped, isTree}
+use Rattle.rules.specs.Operator.{opOf}
+use Rattle.rules.specs.Pool.{Pool, pool, code, field, value, known, leaf, one, two, node, build, below, treeAt, treeOf, fields, operandsTo, operands, allBelow, used, member, shaped, isTree, nOp, restOp, nayNode, valueOp, pairOp, choiceNode, ternaryNode}
 use Rattle.rules.specs.Promise.{Sound}
-use Rattle.rules.proofs.Operators.{never, named}
+use Rattle.rules.proofs.Operators.{never}
 
 pub both-left : (a b : Bool) → (a && b) ≡ true → a ≡ true
 both-left true b e = refl
@@ -35,13 +35,6 @@ member-tail q i xs e = rw (member, ne-eqb i q e)
 
 pub below-in : (f : ℕ → Tree) (p q : ℕ) → q < p → below f p q ≡ f q
 below-in f p q h = rw (below, lt-ltb _ _ h)
-
--- a code is known by its group and its row there
-pub listed : (c g : ℕ) → c / 16 ≡ g → c % 16 < getD rows g 0 → known c ≡ true
-listed c g e h = rw (known, e) (lt-ltb (c % 16) (getD rows g 0) h)
-
-row-in : (c g : ℕ) → c / 16 ≡ g → known c ≡ true → c % 16 < getD rows g 0
-row-in c g e h = ltb-true (c % 16) (getD rows g 0) (rw e at h)
 
 -- two ways to find the operands' trees agree below the place
 below-same : (f g : ℕ → Tree) (p q : ℕ) → ((i : ℕ) → i < p → f i ≡ g i) → below f p q ≡ below g p q
@@ -66,47 +59,46 @@ tree-is P p = node-same P p (treeAt p P) (treeOf P) (λ i l. fuel P p (suc i) i 
 
 -- a node by how many operands its code has
 module _ (c m v : ℕ) (x y b : Tree) where
-  pub build-leaf : c < 48 → build c m v x y b ≡ leaf c m v
-  build-leaf h = rw (build, lt-ltb c 48 h)
+  pub build-leaf : c < nayNode → build c m v x y b ≡ leaf c m v
+  build-leaf h = rw (build, lt-ltb c nayNode h)
 
-  pub build-one : 47 < c → c < 80 → build c m v x y b ≡ one c m v b
-  build-one h l = rw (build, le-ltb c 48 h, lt-ltb c 80 l)
+  pub build-one : nayNode ≤ c → c < pairOp → build c m v x y b ≡ one c m v b
+  build-one h l = rw (build, le-ltb c nayNode h, lt-ltb c pairOp l)
 
-  pub build-two : 79 < c → c < 112 → build c m v x y b ≡ two c v x b
-  build-two h l = rw (build, le-ltb c 48 (omega arith), le-ltb c 80 h, lt-ltb c 112 l)
+  pub build-two : pairOp ≤ c → c < ternaryNode → build c m v x y b ≡ two c v x b
+  build-two h l = rw (build, le-ltb c nayNode (omega arith), le-ltb c pairOp h, lt-ltb c ternaryNode l)
 
-  pub build-three : 111 < c → build c m v x y b ≡ cond x y b
-  build-three h = rw (build, le-ltb c 48 (omega arith), le-ltb c 80 (omega arith), le-ltb c 112 h)
+  pub build-three : ternaryNode ≤ c → build c m v x y b ≡ cond x y b
+  build-three h = rw (build, le-ltb c nayNode (omega arith), le-ltb c pairOp (omega arith), le-ltb c ternaryNode h)
 
 -- and by the code
-module _ (c m v : ℕ) {op : Op} (e : opOf (c % 16) ≡ some op) where
-  pub leaf-op : 15 < c → c < 32 → leaf c m v ≡ bin op var (int v)
-  leaf-op h l = rw (leaf, le-ltb c 16 h, lt-ltb c 32 l, e)
+module _ (c m v : ℕ) {op : Op} where
+  pub leaf-op : opOf (c - nOp) ≡ some op → nOp ≤ c → c < restOp → leaf c m v ≡ bin op var (int v)
+  leaf-op e h l = rw (leaf, le-ltb c nOp h, lt-ltb c restOp l, e)
 
-  pub leaf-rest : 31 < c → leaf c m v ≡ bin op (bin rem var (int m)) (int v)
-  leaf-rest h = rw (leaf, le-ltb c 16 (omega arith), le-ltb c 32 h, e)
+  pub leaf-rest : opOf (c - restOp) ≡ some op → restOp ≤ c → leaf c m v ≡ bin op (bin rem var (int m)) (int v)
+  leaf-rest e h = rw (leaf, le-ltb c nOp (omega arith), le-ltb c restOp h, e)
 
-module _ (c m v : ℕ) (x b : Tree) {op : Op} (e : opOf (c % 16) ≡ some op) where
-  pub one-op : 63 < c → one c m v b ≡ bin op b (int v)
-  one-op h = rw (one, ne-eqb c 48 (omega arith), le-ltb c 64 h, e)
+  pub one-op : (b : Tree) → opOf (c - valueOp) ≡ some op → valueOp ≤ c → one c m v b ≡ bin op b (int v)
+  one-op b e h = rw (one, ne-eqb c nayNode (omega arith), le-ltb c valueOp h, e)
 
-  pub two-op : c < 96 → two c v x b ≡ bin op x b
-  two-op h = rw (two, lt-ltb c 96 h, e)
+pub two-op : (c v : ℕ) (x b : Tree) {op : Op} → opOf (c - pairOp) ≡ some op → c < choiceNode → two c v x b ≡ bin op x b
+two-op c v x b e h = rw (two, lt-ltb c choiceNode h, e)
 
 -- the tree at a place likewise
 module _ (P : Pool) (p : ℕ) where
-  pub tree-leaf : code P p < 48 → treeOf P p ≡ leaf (code P p) (field P p 0) (value P p)
+  pub tree-leaf : code P p < nayNode → treeOf P p ≡ leaf (code P p) (field P p 0) (value P p)
   tree-leaf h = tree-is P p ∙ build-leaf _ _ _ _ _ _ h
 
-  pub tree-one : 47 < code P p → code P p < 80 → p - 1 < p → treeOf P p ≡ one (code P p) (field P p 0) (value P p) (treeOf P (p - 1))
+  pub tree-one : nayNode ≤ code P p → code P p < pairOp → p - 1 < p → treeOf P p ≡ one (code P p) (field P p 0) (value P p) (treeOf P (p - 1))
   tree-one h l b = rw (tree-is P p, below-in (treeOf P) p (p - 1) b) (build-one _ _ _ _ _ _ h l)
 
-  pub tree-two : 79 < code P p → code P p < 112 → p - 1 < p → field P p 0 < p
+  pub tree-two : pairOp ≤ code P p → code P p < ternaryNode → p - 1 < p → field P p 0 < p
       → treeOf P p ≡ two (code P p) (value P p) (treeOf P (field P p 0)) (treeOf P (p - 1))
   tree-two h l b x =
       rw (tree-is P p, below-in (treeOf P) p (p - 1) b, below-in (treeOf P) p (field P p 0) x) (build-two _ _ _ _ _ _ h l)
 
-  pub tree-three : 111 < code P p → p - 1 < p → field P p 0 < p → field P p 1 < p
+  pub tree-three : ternaryNode ≤ code P p → p - 1 < p → field P p 0 < p → field P p 1 < p
       → treeOf P p ≡ cond (treeOf P (field P p 0)) (treeOf P (field P p 1)) (treeOf P (p - 1))
   tree-three h b x y =
       rw (tree-is P p, below-in (treeOf P) p (p - 1) b, below-in (treeOf P) p (field P p 0) x, below-in (treeOf P) p (field P p 1) y)
@@ -136,52 +128,30 @@ field-low P p (suc a) j h e =
     (λ l. field-low P p a j l (both-right (ltb (field P p a) p) _ e))
     (eq-or-lt-of-le (le-of-suc-le-suc h))
 
-two-groups : (c g : ℕ) → 16 * g ≤ c → c < 16 * g + 32 → (c / 16 ≡ g) ⊎ (c / 16 ≡ g + 1)
-two-groups c g h l = go (ltb c (16 * g + 16)) refl
-  where
-    go : (b : Bool) → ltb c (16 * g + 16) ≡ b → (c / 16 ≡ g) ⊎ (c / 16 ≡ g + 1)
-    go true e = let k = ltb-true c (16 * g + 16) e in inl (omega arith)
-    go false e = let k = ltb-false c (16 * g + 16) e in inr (omega arith)
-
 module _ {P : Pool} {p : ℕ} (s : Sound P p) where
   shape-in : (known (code P p) && allBelow p (operands P p)) ≡ true
   shape-in = in-shape P (s .count) p (s .inside) (s .shape)
 
-  pub known-in : known (code P p) ≡ true
-  known-in = both-left (known (code P p)) _ shape-in
+  pub known-in : code P p ≤ ternaryNode
+  known-in = leb-true _ _ (both-left (known (code P p)) _ shape-in)
 
-  -- a code of a group of operators has one
-  pub op-low : 15 < code P p → code P p < 48 → Named (code P p % 16)
-  op-low h l =
-      ⊎-elim
-      (λ e. named _ (row-in (code P p) 1 e known-in))
-      (λ e. named _ (row-in (code P p) 2 e known-in))
-      (two-groups (code P p) 1 h l)
-
-  pub op-high : 63 < code P p → code P p < 96 → Named (code P p % 16)
-  op-high h l =
-      ⊎-elim
-      (λ e. named _ (row-in (code P p) 4 e known-in))
-      (λ e. named _ (row-in (code P p) 5 e known-in))
-      (two-groups (code P p) 4 h l)
-
-  all-in : 47 < code P p → allBelow p (operandsTo P p (fields (code P p))) ≡ true
+  all-in : nayNode ≤ code P p → allBelow p (operandsTo P p (fields (code P p))) ≡ true
   unfolding operands
-  all-in h = rw (operands, le-ltb (code P p) 48 h) at (both-right (known (code P p)) _ shape-in)
+  all-in h = rw (operands, le-ltb (code P p) nayNode h) at (both-right (known (code P p)) _ shape-in)
 
-  pub before-in : 47 < code P p → p - 1 < p
+  pub before-in : nayNode ≤ code P p → p - 1 < p
   before-in h = before-low P p (fields (code P p)) (all-in h)
 
-  pub first-in : 79 < code P p → field P p 0 < p
-  first-in h = field-low P p (fields (code P p)) 0 (rw (fields, le-ltb (code P p) 80 h) (go (ltb (code P p) 112))) (all-in (omega arith))
+  pub first-in : pairOp ≤ code P p → field P p 0 < p
+  first-in h = field-low P p (fields (code P p)) 0 (rw (fields, le-ltb (code P p) pairOp h) (go (ltb (code P p) ternaryNode))) (all-in (omega arith))
     where
       go : (b : Bool) → 0 < elim b [ true ↦ 1 | false ↦ 2 ]
       go true = omega arith
       go false = omega arith
 
-  pub second-in : 111 < code P p → field P p 1 < p
+  pub second-in : ternaryNode ≤ code P p → field P p 1 < p
   second-in h =
-      field-low P p (fields (code P p)) 1 (rw (fields, le-ltb (code P p) 80 (omega arith), le-ltb (code P p) 112 h) (omega arith)) (all-in (omega arith))
+      field-low P p (fields (code P p)) 1 (rw (fields, le-ltb (code P p) pairOp (omega arith), le-ltb (code P p) ternaryNode h) (omega arith)) (all-in (omega arith))
 
   pub down : {q x t : ℕ} → p ≡ t → x < p → q ≡ x → (q < t) × Sound P q
   down e l d = (omega arith, record { count = s .count; inside = omega (arith, s .inside); few = s .few; shape = s .shape })
@@ -207,7 +177,7 @@ module _ (c s v w : List ℕ) where
 
   operands-all : (k : ℕ) → operands (pool c s v) k ≡ operands (pool c s w) k
   unfolding operands
-  operands-all k = ap (λ (l : List ℕ). elim (ltb (getD c k 0) 48) [ true ↦ [] | false ↦ l ]) (operands-any k (fields (getD c k 0)))
+  operands-all k = ap (λ (l : List ℕ). elim (ltb (getD c k 0) nayNode) [ true ↦ [] | false ↦ l ]) (operands-any k (fields (getD c k 0)))
 
   used-any : (k : ℕ) → used (pool c s v) k ≡ used (pool c s w) k
   unfolding used

@@ -3,18 +3,19 @@
 use mathlib.Core.Path.{_≡_, refl, _∙_}
 use mathlib.Core.Bool.{Bool, true, false, _||_}
 use mathlib.Core.Logic.{_⊎_, ⊎-elim}
-use Prim.Native.Nat.{ℕ, _+_, _-_, _<_, _≤_, _/_}
+use Prim.Native.Nat.{ℕ, _+_, _-_, _<_, _≤_}
 use native.Mathlib.Omega.{arith}
 use native.Mathlib.Nat.{eq-or-lt-of-le}
 use lib.Dec.{leb, eqb}
+use borrow.Author.Tests.{lt-ltb, le-leb}
 use Rattle.rules.specs.Tree.{Tree, var, int, nay, bin, cond}
 use Rattle.rules.specs.Operator.{opCode}
-use Rattle.rules.specs.Pool.{Pool, code, treeOf}
+use Rattle.rules.specs.Pool.{Pool, code, treeOf, nayNode, pairOp, choiceNode, ternaryNode}
 use Rattle.rules.specs.Promise.{plain, Plain}
 use Rattle.rules.specs.Store.{push, size, store, blank}
 use Rattle.rules.specs.Pack.{Packed, leaf, one, two, three, unpack, nodes, keep}
 use Rattle.rules.proofs.Operators.{code-in}
-use Rattle.rules.proofs.Trees.{listed, sound}
+use Rattle.rules.proofs.Trees.{sound}
 use Rattle.rules.proofs.Packs.{Fits, is-two}
 use Rattle.rules.proofs.Stored.{nodes-pos, Long, less, push-below, pushed, keep-long, long-blank, kept-tree}
 use Rattle.rules.proofs.StoredTree.{kept-is-tree}
@@ -30,8 +31,8 @@ size-pos (cond s t u) = omega arith
 unfoldable spread : Tree → Packed
 spread var = leaf 0 0 0
 spread (int v) = leaf 1 0 v
-spread (nay t) = one 48 0 0 (spread t)
-spread (bin op s t) = two (80 + opCode op) 0 (spread s) (spread t)
+spread (nay t) = one nayNode 0 0 (spread t)
+spread (bin op s t) = two (pairOp + opCode op) 0 (spread s) (spread t)
 spread (cond s t u) = three (spread s) (spread t) (spread u)
 
 same : (t : Tree) → unpack (spread t) ≡ t
@@ -44,10 +45,10 @@ same (cond s t u) = rw (same s, same t, same u)
 
 fits : (t : Tree) → Fits (spread t)
 unfolding spread
-fits var = (omega arith, refl)
-fits (int v) = (omega arith, refl)
-fits (nay t) = (omega arith, omega arith, fits t, refl)
-fits (bin op s t) = let h = code-in op in (omega arith, omega arith, fits s, fits t, listed (80 + opCode op) 5 (omega arith) (omega arith))
+fits var = omega arith
+fits (int v) = omega arith
+fits (nay t) = (omega arith, omega arith, fits t)
+fits (bin op s t) = let h = code-in op in (omega arith, omega arith, fits s, fits t)
 fits (cond s t u) = (fits s, fits t, fits u)
 
 as-many : (t : Tree) → nodes (spread t) ≡ size t
@@ -114,13 +115,13 @@ keep-plain (three x y z) k P l w b =
     let R = keep x k P in
     let S = keep y m R in
     λ q h.
-    one-more (keep z r S) n 112 (m - 1) (r - 1) 0 (keep-long z r S (keep-long y m R (keep-long x k P (less (n + 1) (omega arith) l)))) refl
+    one-more (keep z r S) n ternaryNode (m - 1) (r - 1) 0 (keep-long z r S (keep-long y m R (keep-long x k P (less (n + 1) (omega arith) l)))) refl
     (keep-plain z r S (keep-long y m R (keep-long x k P (less n (omega arith) l))) (w .2)
     (keep-plain y m R (keep-long x k P (less r (omega arith) l)) (w .1) (keep-plain x k P (less m (omega arith) l) (w .0) b)))
     q (omega arith)
 
-reader-op : (c : ℕ) → c / 16 ≡ 5 → plain c ≡ true
-reader-op c e = rw (plain, e) (go (leb c 1) (eqb c 48) (eqb c 112))
+reader-op : (c : ℕ) → pairOp ≤ c → c < choiceNode → plain c ≡ true
+reader-op c h l = rw (plain, le-leb pairOp c h, lt-ltb c choiceNode l) (go (leb c 1) (eqb c nayNode) (eqb c ternaryNode))
   where
     go : (a b d : Bool) → (a || (b || (d || true))) ≡ true
     go true b d = refl
@@ -133,7 +134,7 @@ unfolding spread
 written var = refl
 written (int v) = refl
 written (nay t) = (refl, written t)
-written (bin op s t) = let h = code-in op in (reader-op (80 + opCode op) (omega arith), written s, written t)
+written (bin op s t) = let h = code-in op in (reader-op (pairOp + opCode op) (omega arith) (omega arith), written s, written t)
 written (cond s t u) = (written s, written t, written u)
 
 -- a tree of at most 512 nodes, as a reader puts it from place 0 on: it is held, and can be packed

@@ -1,5 +1,5 @@
 -- The binary operators: one table, a row for each, whose place is the operator's number. A number that the table does not list is no
--- operator's. There is room for 16.
+-- operator's.
 use Prim.Native.Nat.{ℕ, zero, suc}
 use mathlib.Core.Path.{_≡_}
 use mathlib.Core.List.{List, [], _∷_}

@@ -12,10 +12,10 @@ use Rattle.rules.specs.declared.Small.the-variants as small
 use Rattle.rules.specs.declared.Left.{Left}
 use Rattle.rules.specs.declared.Left.the-variants as left
 use Rattle.rules.specs.Pool as pool
-use Rattle.rules.specs.Pool.{Pool}
+use Rattle.rules.specs.Pool.{Pool, nOp, restOp, nayNode, pickNode, valueOp, pairOp, choiceNode, ternaryNode}
 use Rattle.rules.specs.Store.{push, blank}
 
--- a node with no, one, two or three operands: its code (112 where there are three), the number in its first field, its value
+-- a node with no, one, two or three operands: its code (ternaryNode where there are three), the number in its first field, its value
 pub data Packed : Type 0 where
   leaf : ℕ → ℕ → ℕ → Packed
   one : ℕ → ℕ → ℕ → Packed → Packed
@@ -72,21 +72,21 @@ leftOf (cond s t u) = left.Other
 
 -- an operator on s and t, by what they are; x and y are their packed trees
 abbrev pub packBin : Op → Left → Number → Packed → Packed → Packed
-packBin op left.Count (number.Is v) x y = leaf (16 + opCode op) 0 v
-packBin op (left.Rest m) (number.Is v) x y = leaf (32 + opCode op) m v
-packBin op left.Other (number.Is v) x y = one (64 + opCode op) 0 v x
-packBin op l number.Other x y = two (80 + opCode op) 0 x y
+packBin op left.Count (number.Is v) x y = leaf (nOp + opCode op) 0 v
+packBin op (left.Rest m) (number.Is v) x y = leaf (restOp + opCode op) m v
+packBin op left.Other (number.Is v) x y = one (valueOp + opCode op) 0 v x
+packBin op l number.Other x y = two (pairOp + opCode op) 0 x y
 
 abbrev pub packCond : Number → Small → Packed → Packed → Packed → Packed
-packCond (number.Is v) (small.Is m) x y z = one 49 m v x
-packCond (number.Is v) small.Other x y z = two 96 v x z
+packCond (number.Is v) (small.Is m) x y z = one pickNode m v x
+packCond (number.Is v) small.Other x y z = two choiceNode v x z
 packCond number.Other u x y z = three x y z
 
 unfoldable pub pack : Tree → Packed
 unfolding numberOf leftOf
 pack var = leaf 0 0 0
 pack (int v) = leaf 1 0 v
-pack (nay t) = one 48 0 0 (pack t)
+pack (nay t) = one nayNode 0 0 (pack t)
 pack (bin op s t) = packBin op (leftOf s) (numberOf t) (pack s) (pack t)
 pack (cond s t u) = packCond (numberOf t) (smallOf u) (pack s) (pack t) (pack u)
 
@@ -106,7 +106,7 @@ keep (three x y z) k P =
     push
     (keep z (k + nodes x + nodes y) (keep y (k + nodes x) (keep x k P)))
     (k + nodes x + nodes y + nodes z)
-    112
+    ternaryNode
     (k + nodes x - 1)
     (k + nodes x + nodes y - 1)
     0

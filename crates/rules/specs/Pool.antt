@@ -1,16 +1,16 @@
 -- A rule as nodes in arrays of numbers: a code at each place, two fields, and a value. The operands are places, of which the last is
--- always the place before the node's own. These are the codes, in groups of 16:
+-- always the place before the node's own. These are the codes, without a gap:
 --
---   0; 1               n; v
---   16 + i; 32 + i     n op v; n % m op v
---   48; 49; 64 + i     !b; b ? v : m; b op v
---   80 + i; 96         x op b; x ? v : b
---   112                x ? y : b
+--   0; 1                                 n; v
+--   nOp + i; restOp + i                  n op v; n % m op v
+--   nayNode; pickNode; valueOp + i       !b; b ? v : m; b op v
+--   pairOp + i; choiceNode               x op b; x ? v : b
+--   ternaryNode                          x ? y : b
 --
 -- with v the value, m the first field, x and y the trees at the places that the fields name, b the tree at the place before, and op the
--- operator of number i. A reader writes 0, 1, 48, 80 + i and 112, a node for each n, integer and operator; packing folds leaves into the
--- others. SPEC 8: what makes nodes no tree, a code that is not among these first.
-use Prim.Native.Nat.{ℕ, zero, suc, _+_, _*_, _-_, _%_, _/_}
+-- operator of number i. A reader writes 0, 1, nayNode, pairOp + i and ternaryNode, a node for each n, integer and operator; packing folds leaves
+-- into the others. SPEC 8: what makes nodes no tree, a code that is not among these first.
+use Prim.Native.Nat.{ℕ, zero, suc, _+_, _*_, _-_}
 use mathlib.Core.Bool.{Bool, true, false, not, _&&_}
 use mathlib.Core.List.{List, [], _∷_, _++_}
 use mathlib.Core.Option.{Option, none, some}
@@ -37,12 +37,34 @@ field P p j = getD (P .places) (2 * p + j) 0
 abbrev pub value : Pool → ℕ → ℕ
 value P p = getD (P .values) p 0
 
--- how many codes of each group are listed
-abbrev pub rows : List ℕ
-rows = 2 ∷ length operators ∷ length operators ∷ 2 ∷ length operators ∷ length operators ∷ 1 ∷ 1 ∷ []
+-- the codes: a group of the operators' has as many as there are operators
+abbrev pub nOp : ℕ
+nOp = 2
 
+abbrev pub restOp : ℕ
+restOp = nOp + length operators
+
+abbrev pub nayNode : ℕ
+nayNode = restOp + length operators
+
+abbrev pub pickNode : ℕ
+pickNode = nayNode + 1
+
+abbrev pub valueOp : ℕ
+valueOp = pickNode + 1
+
+abbrev pub pairOp : ℕ
+pairOp = valueOp + length operators
+
+abbrev pub choiceNode : ℕ
+choiceNode = pairOp + length operators
+
+abbrev pub ternaryNode : ℕ
+ternaryNode = choiceNode + 1
+
+-- no other is known
 abbrev pub known : ℕ → Bool
-known c = ltb (c % 16) (getD rows (c / 16) 0)
+known c = leb c ternaryNode
 
 -- operator number i on two trees
 abbrev pub joined : Option Op → Tree → Tree → Tree
@@ -52,30 +74,30 @@ joined none x y = var
 -- a node with no operand, by its code; with one, which is b; with two, which are x and b
 abbrev pub leaf : ℕ → ℕ → ℕ → Tree
 leaf c m v =
-    elim (ltb c 16) [
+    elim (ltb c nOp) [
       | true ↦ elim (eqb c 0) [ true ↦ var | false ↦ int v ]
-      | false ↦ elim (ltb c 32) [
-        | true ↦ joined (opOf (c % 16)) var (int v)
-        | false ↦ joined (opOf (c % 16)) (bin rem var (int m)) (int v)
+      | false ↦ elim (ltb c restOp) [
+        | true ↦ joined (opOf (c - nOp)) var (int v)
+        | false ↦ joined (opOf (c - restOp)) (bin rem var (int m)) (int v)
       ]
     ]
 
 abbrev pub one : ℕ → ℕ → ℕ → Tree → Tree
 one c m v b =
-    elim (eqb c 48) [
+    elim (eqb c nayNode) [
       | true ↦ nay b
-      | false ↦ elim (ltb c 64) [ true ↦ cond b (int v) (int m) | false ↦ joined (opOf (c % 16)) b (int v) ]
+      | false ↦ elim (ltb c valueOp) [ true ↦ cond b (int v) (int m) | false ↦ joined (opOf (c - valueOp)) b (int v) ]
     ]
 
 abbrev pub two : ℕ → ℕ → Tree → Tree → Tree
-two c v x b = elim (ltb c 96) [ true ↦ joined (opOf (c % 16)) x b | false ↦ cond x (int v) b ]
+two c v x b = elim (ltb c choiceNode) [ true ↦ joined (opOf (c - pairOp)) x b | false ↦ cond x (int v) b ]
 
 -- the tree of a node
 abbrev pub build : ℕ → ℕ → ℕ → Tree → Tree → Tree → Tree
 build c m v x y b =
-    elim (ltb c 48) [
+    elim (ltb c nayNode) [
       | true ↦ leaf c m v
-      | false ↦ elim (ltb c 80) [ true ↦ one c m v b | false ↦ elim (ltb c 112) [ true ↦ two c v x b | false ↦ cond x y b ] ]
+      | false ↦ elim (ltb c pairOp) [ true ↦ one c m v b | false ↦ elim (ltb c ternaryNode) [ true ↦ two c v x b | false ↦ cond x y b ] ]
     ]
 
 -- an operand place that is not below its parent's holds no tree
@@ -97,7 +119,7 @@ treeOf P p = treeAt (suc p) P p
 
 -- how many fields of a node with operands are places
 abbrev pub fields : ℕ → ℕ
-fields c = elim (ltb c 80) [ true ↦ 0 | false ↦ elim (ltb c 112) [ true ↦ 1 | false ↦ 2 ] ]
+fields c = elim (ltb c pairOp) [ true ↦ 0 | false ↦ elim (ltb c ternaryNode) [ true ↦ 1 | false ↦ 2 ] ]
 
 unfoldable pub operandsTo : Pool → ℕ → ℕ → List ℕ
 operandsTo P p zero = (p - 1) ∷ []
@@ -106,7 +128,7 @@ operandsTo P p (suc j) = field P p j ∷ operandsTo P p j
 -- the operands of the node at p
 unfoldable pub operands : Pool → ℕ → List ℕ
 unfolding operandsTo
-operands P p = elim (ltb (code P p) 48) [ true ↦ [] | false ↦ operandsTo P p (fields (code P p)) ]
+operands P p = elim (ltb (code P p) nayNode) [ true ↦ [] | false ↦ operandsTo P p (fields (code P p)) ]
 
 unfoldable pub allBelow : ℕ → List ℕ → Bool
 allBelow p [] = true

@@ -1,9 +1,9 @@
 -- What a walk over the nodes of a pool asks of the place that it begins at.
-use Prim.Native.Nat.{ℕ, _<_, _≤_, _/_}
+use Prim.Native.Nat.{ℕ, _<_, _≤_}
 use mathlib.Core.Path.{_≡_}
-use mathlib.Core.Bool.{Bool, true, _||_}
-use lib.Dec.{leb, eqb}
-use Rattle.rules.specs.Pool.{Pool, code, shaped}
+use mathlib.Core.Bool.{Bool, true, _&&_, _||_}
+use lib.Dec.{leb, ltb, eqb}
+use Rattle.rules.specs.Pool.{Pool, code, shaped, nayNode, pairOp, choiceNode, ternaryNode}
 
 -- a place below the node count of a pool whose places all have known codes and operands below them
 pub record Sound (P : Pool) (p : ℕ) : Type 0 where
@@ -14,7 +14,7 @@ pub record Sound (P : Pool) (p : ℕ) : Type 0 where
 
 -- a code that a reader writes
 abbrev pub plain : ℕ → Bool
-plain c = leb c 1 || (eqb c 48 || (eqb c 112 || eqb (c / 16) 5))
+plain c = leb c 1 || (eqb c nayNode || (eqb c ternaryNode || (leb pairOp c && ltb c choiceNode)))
 
 -- a sound place up to which a reader wrote
 pub record Plain (P : Pool) (p : ℕ) : Type 0 where

@@ -1,4 +1,4 @@
-// The codes of nodes, in groups of 16, as the table of specs/Pool.antt has them: v is a node's value, m its first field, x and y the nodes at
+// The codes of nodes, without a gap, as the table of specs/Pool.antt has them: v is a node's value, m its first field, x and y the nodes at
 // the places that its fields name, b the node before it. To a code with _OP the number of an operator is added.
 pub const N: u8 = 0;
 
@@ -6,28 +6,28 @@ pub const N: u8 = 0;
 pub const INTEGER: u8 = 1;
 
 // n op v
-pub const N_OP: u8 = 16;
+pub const N_OP: u8 = 2;
 
 // n % m op v
-pub const REST_OP: u8 = 32;
+pub const REST_OP: u8 = N_OP + OPERATORS;
 
 // !b
-pub const NOT: u8 = 48;
+pub const NOT: u8 = REST_OP + OPERATORS;
 
 // b ? v : m
-pub const PICK: u8 = 49;
+pub const PICK: u8 = NOT + 1;
 
 // b op v
-pub const VALUE_OP: u8 = 64;
+pub const VALUE_OP: u8 = PICK + 1;
 
 // x op b
-pub const OP: u8 = 80;
+pub const OP: u8 = VALUE_OP + OPERATORS;
 
 // x ? v : b
-pub const CHOICE: u8 = 96;
+pub const CHOICE: u8 = OP + OPERATORS;
 
 // x ? y : b
-pub const TERNARY: u8 = 112;
+pub const TERNARY: u8 = CHOICE + 1;
 
 // How many binary operators there are, and so codes of each group of theirs.
 pub const OPERATORS: u8 = 13;

@@ -1,15 +1,15 @@
 -- Packing place by place: what the nodes that a reader left say of the tree, what is packed then, and how much room it takes.
 use mathlib.Core.Path.{_≡_, refl, sym, ap, _∙_}
-use mathlib.Core.Bool.{Bool, true, false, _||_}
+use mathlib.Core.Bool.{Bool, true, false, _&&_, _||_}
 use mathlib.Core.Option.{some}
-use Prim.Native.Nat.{ℕ, _+_, _-_, _<_, _≤_, _%_, _/_}
+use Prim.Native.Nat.{ℕ, _+_, _-_, _<_, _≤_}
 use native.Mathlib.Omega.{arith}
 use lib.ListN.{replicate}
 use lib.Dec.{eqb, leb, ltb}
-use borrow.Author.Tests.{eqb-true, eqb-false, eq-eqb, ne-eqb, lt-leb, ltb-true, ltb-false}
+use borrow.Author.Tests.{eqb-true, eqb-false, eq-eqb, ne-eqb, lt-leb, leb-true, ltb-true}
 use Rattle.rules.specs.Tree.{Tree, var, int, nay, bin, cond, Op, cmp, and, or, rem, eq, ne, ge, le, gt, lt, calc, div, plus, minus, times}
 use Rattle.rules.specs.Operator.{opOf, opCode, Named}
-use Rattle.rules.specs.Pool.{Pool, pool, code, value, field, treeOf}
+use Rattle.rules.specs.Pool.{Pool, pool, code, value, field, treeOf, nOp, restOp, nayNode, pickNode, valueOp, pairOp, choiceNode, ternaryNode}
 use Rattle.rules.specs.Promise.{plain, Plain}
 use Rattle.rules.specs.declared.Number.{Number}
 use Rattle.rules.specs.declared.Number.the-variants as number
@@ -19,32 +19,35 @@ use Rattle.rules.specs.declared.Left.{Left}
 use Rattle.rules.specs.declared.Left.the-variants as left
 use Rattle.rules.specs.Store.{push, blank}
 use Rattle.rules.specs.Pack.{Packed, leaf, one, two, three, numberOf, smallBy, isCount, isRem, restBy, leftOf, packBin, packCond, pack, nodes, keep, packedSize, packed}
-use Rattle.rules.proofs.Operators.{never, code-is}
-use Rattle.rules.proofs.Trees.{before-in, first-in, second-in, op-high, down, tree-leaf, tree-one, tree-two, tree-three, two-op}
+use Rattle.rules.proofs.Operators.{named as operator, code-is}
+use Rattle.rules.proofs.Trees.{both-left, both-right, before-in, first-in, second-in, down, tree-leaf, tree-one, tree-two, tree-three, two-op}
 use Rattle.rules.proofs.Stored.{packed-pos, blank-is}
 use Rattle.rules_pack.specs.Private.{Packs, numberAt}
 
+-- the code of an operator on two nodes
+abbrev pub Pair : ℕ → Type 0
+Pair c = (pairOp ≤ c) × (c < choiceNode)
+
 -- a reader's code that is neither n nor an integer has an operand, one that is not ! has two, and one that is not ?: is an operator's
 module _ (c : ℕ) (e : plain c ≡ true) (h0 : c ≡ 0 → ⊥) (h1 : c ≡ 1 → ⊥) where
-  rest-of : (c ≡ 48 → ⊥) → (c ≡ 112 → ⊥) → c / 16 ≡ 5
-  rest-of h2 h3 = eqb-true (c / 16) 5 (rw (lt-leb c 1 (omega arith), ne-eqb c 48 h2, ne-eqb c 112 h3) at e)
+  rest-of : (c ≡ nayNode → ⊥) → (c ≡ ternaryNode → ⊥) → Pair c
+  rest-of h2 h3 =
+      let d : (leb pairOp c && ltb c choiceNode) ≡ true = rw (lt-leb c 1 (omega arith), ne-eqb c nayNode h2, ne-eqb c ternaryNode h3) at e in
+      (leb-true pairOp c (both-left _ (ltb c choiceNode) d), ltb-true c choiceNode (both-right (leb pairOp c) _ d))
 
-  past-leaf : 47 < c
-  past-leaf = go (ltb 47 c) refl
+  past-not : (c ≡ nayNode → ⊥) → pairOp ≤ c
+  past-not h2 = go (eqb c ternaryNode) refl
     where
-      go : (b : Bool) → ltb 47 c ≡ b → 47 < c
-      go true f = ltb-true 47 c f
-      go false f =
-          let l = ltb-false 47 c f in
-          let d = rest-of (omega arith) (omega arith) in
-          absurd (omega arith)
+      go : (b : Bool) → eqb c ternaryNode ≡ b → pairOp ≤ c
+      go true f = let d = eqb-true c ternaryNode f in omega arith
+      go false f = rest-of h2 (eqb-false c ternaryNode f) .0
 
-  past-not : (c ≡ 48 → ⊥) → 79 < c
-  past-not h2 = go (eqb c 112) refl
+  past-leaf : nayNode ≤ c
+  past-leaf = go (eqb c nayNode) refl
     where
-      go : (b : Bool) → eqb c 112 ≡ b → 79 < c
-      go true f = let d = eqb-true c 112 f in omega arith
-      go false f = let d = rest-of h2 (eqb-false c 112 f) in omega arith
+      go : (b : Bool) → eqb c nayNode ≡ b → nayNode ≤ c
+      go true f = let d = eqb-true c nayNode f in omega arith
+      go false f = let d = past-not (eqb-false c nayNode f) in omega arith
 
 -- what a sound place up to which a reader wrote knows
 module _ {P : Pool} {p : ℕ} (s : Plain P p) where
@@ -54,13 +57,13 @@ module _ {P : Pool} {p : ℕ} (s : Plain P p) where
   pub last-in : (code P p ≡ 0 → ⊥) → (code P p ≡ 1 → ⊥) → p - 1 < p
   last-in e f = before-in (s .sound) (past-leaf (code P p) here e f)
 
-  pub left-in : (code P p ≡ 0 → ⊥) → (code P p ≡ 1 → ⊥) → (code P p ≡ 48 → ⊥) → field P p 0 < p
+  pub left-in : (code P p ≡ 0 → ⊥) → (code P p ≡ 1 → ⊥) → (code P p ≡ nayNode → ⊥) → field P p 0 < p
   left-in e f g = first-in (s .sound) (past-not (code P p) here e f g)
 
-  pub mid-in : code P p ≡ 112 → field P p 1 < p
+  pub mid-in : code P p ≡ ternaryNode → field P p 1 < p
   mid-in e = second-in (s .sound) (omega arith)
 
-  pub binary : (code P p ≡ 0 → ⊥) → (code P p ≡ 1 → ⊥) → (code P p ≡ 48 → ⊥) → (code P p ≡ 112 → ⊥) → code P p / 16 ≡ 5
+  pub binary : (code P p ≡ 0 → ⊥) → (code P p ≡ 1 → ⊥) → (code P p ≡ nayNode → ⊥) → (code P p ≡ ternaryNode → ⊥) → Pair (code P p)
   binary e f g h = rest-of (code P p) here e f g h
 
   pub lower : {q x t : ℕ} → p ≡ t → x < p → q ≡ x → (q < t) × Plain P q
@@ -72,8 +75,8 @@ module _ {P : Pool} {p : ℕ} (s : Plain P p) where
   pub high : p < 512
   high = omega (arith, s .sound .inside, s .sound .few)
 
-  named : code P p / 16 ≡ 5 → Named (code P p % 16)
-  named e = op-high (s .sound) (omega arith) (omega arith)
+  named : Pair (code P p) → Named (code P p - pairOp)
+  named e = operator (code P p - pairOp) (omega (arith, e .1))
 
   abbrev T : ℕ → Tree
   T q = treeOf P q
@@ -84,25 +87,25 @@ module _ {P : Pool} {p : ℕ} (s : Plain P p) where
   tree-int : code P p ≡ 1 → T p ≡ int (value P p)
   tree-int e = rw (tree-leaf P p (omega arith), e)
 
-  tree-nay : code P p ≡ 48 → T p ≡ nay (T (p - 1))
+  tree-nay : code P p ≡ nayNode → T p ≡ nay (T (p - 1))
   tree-nay e = rw (tree-one P p (omega arith) (omega arith) (before-in (s .sound) (omega arith)), e)
 
-  tree-cond : code P p ≡ 112 → T p ≡ cond (T (field P p 0)) (T (field P p 1)) (T (p - 1))
+  tree-cond : code P p ≡ ternaryNode → T p ≡ cond (T (field P p 0)) (T (field P p 1)) (T (p - 1))
   tree-cond e =
       tree-three P p (omega arith) (before-in (s .sound) (omega arith)) (first-in (s .sound) (omega arith)) (second-in (s .sound) (omega arith))
 
-  tree-bin : (e : code P p / 16 ≡ 5) → T p ≡ bin (named e .op) (T (field P p 0)) (T (p - 1))
+  tree-bin : (e : Pair (code P p)) → T p ≡ bin (named e .op) (T (field P p 0)) (T (p - 1))
   tree-bin e =
       tree-two P p (omega arith) (omega arith) (before-in (s .sound) (omega arith)) (first-in (s .sound) (omega arith))
-      ∙ two-op (code P p) 0 (value P p) _ _ (named e .is) (omega arith)
+      ∙ two-op (code P p) (value P p) _ _ (named e .is) (omega arith)
 
   -- what holds of each kind of node holds of this one
   pub of-each : (Q : Tree → Type 0) → (code P p ≡ 0 → Q var) → (code P p ≡ 1 → Q (int (value P p)))
       → ((code P p ≡ 0 → ⊥) → (code P p ≡ 1 → ⊥) → (t : Tree) → Q (nay t)) → ((code P p ≡ 0 → ⊥) → (code P p ≡ 1 → ⊥) → (t u v : Tree) → Q (cond t u v))
-      → ((code P p ≡ 0 → ⊥) → (code P p ≡ 1 → ⊥) → (op : Op) → opCode op ≡ code P p % 16 → code P p / 16 ≡ 5 → (t u : Tree) → Q (bin op t u)) → Q (T p)
-  of-each Q q0 q1 q2 q3 q4 = go (eqb (code P p) 0) refl (eqb (code P p) 1) refl (eqb (code P p) 48) refl (eqb (code P p) 112) refl
+      → ((code P p ≡ 0 → ⊥) → (code P p ≡ 1 → ⊥) → (op : Op) → opCode op ≡ code P p - pairOp → Pair (code P p) → (t u : Tree) → Q (bin op t u)) → Q (T p)
+  of-each Q q0 q1 q2 q3 q4 = go (eqb (code P p) 0) refl (eqb (code P p) 1) refl (eqb (code P p) nayNode) refl (eqb (code P p) ternaryNode) refl
     where
-      go : (a : Bool) → eqb (code P p) 0 ≡ a → (b : Bool) → eqb (code P p) 1 ≡ b → (c : Bool) → eqb (code P p) 48 ≡ c → (d : Bool) → eqb (code P p) 112 ≡ d
+      go : (a : Bool) → eqb (code P p) 0 ≡ a → (b : Bool) → eqb (code P p) 1 ≡ b → (c : Bool) → eqb (code P p) nayNode ≡ c → (d : Bool) → eqb (code P p) ternaryNode ≡ d
           → Q (T p)
       go true e b f c g d h = rw (tree-var (eqb-true _ _ e)) (q0 (eqb-true _ _ e))
       go false e true f c g d h = rw (tree-int (eqb-true _ _ f)) (q1 (eqb-true _ _ f))
@@ -148,16 +151,16 @@ module _ {P : Pool} {p : ℕ} (s : Plain P p) where
   unfolding leftOf
   left-count e = rw (tree-var s e)
 
-  pub left-other : (code P p ≡ 0 → ⊥) → (code P p ≡ 88 → ⊥) → left.Other ≡ leftOf (treeOf P p)
+  pub left-other : (code P p ≡ 0 → ⊥) → (code P p ≡ pairOp + 8 → ⊥) → left.Other ≡ leftOf (treeOf P p)
   unfolding leftOf
   left-other e f =
       of-each s (λ t. left.Other ≡ leftOf t) (λ g. absurd (e g)) (λ g. refl) (λ g h t. refl) (λ g h t u v. refl)
-      (λ g h op i k t u. rw (leftOf, rem-by op, i, ne-eqb (code P p % 16) 8 (λ j. f (omega arith))))
+      (λ g h op i k t u. rw (leftOf, rem-by op, i, ne-eqb (code P p - pairOp) 8 (λ j. f (omega arith))))
 
   -- n % m: the code says so, and what its operands' places hold
-  module _ (e : code P p ≡ 88) where
-    group : code P p / 16 ≡ 5
-    group = omega arith
+  module _ (e : code P p ≡ pairOp + 8) where
+    group : Pair (code P p)
+    group = (omega arith, omega arith)
 
     rem-here : leftOf (treeOf P p) ≡ elim (isCount (treeOf P (field P p 0))) [ true ↦ restBy (smallBy (numberOf (treeOf P (p - 1)))) | false ↦ left.Other ]
     unfolding leftOf
@@ -174,17 +177,10 @@ module _ {P : Pool} {p : ℕ} (s : Plain P p) where
     pub left-no-count : {l : ℕ} → l ≡ field P p 0 → (code P l ≡ 0 → ⊥) → left.Other ≡ leftOf (treeOf P p)
     left-no-count d h = sym (rem-here ∙ rw (not-count left-at (rw d at h)))
 
-    rest : {l : ℕ} {o : Small} → l ≡ field P p 0 → code P l ≡ 0 → o ≡ smallBy (numberAt (code P (p - 1)) (value P (p - 1))) → leftOf (treeOf P p) ≡ restBy o
+    pub left-rest : {l : ℕ} {o q : Small} → l ≡ field P p 0 → code P l ≡ 0 → o ≡ smallBy (numberAt (code P (p - 1)) (value P (p - 1))) → o ≡ q
+        → restBy q ≡ leftOf (treeOf P p)
     unfolding isCount
-    rest d h g = rem-here ∙ rw (tree-var left-at (rw d at h), number-at right-at, ← g)
-
-    pub left-rest : {l m : ℕ} {o : Small} → l ≡ field P p 0 → code P l ≡ 0 → o ≡ smallBy (numberAt (code P (p - 1)) (value P (p - 1))) → o ≡ small.Is m
-        → left.Rest m ≡ leftOf (treeOf P p)
-    left-rest d h g i = sym (rest d h g ∙ ap restBy i)
-
-    pub left-large : {l : ℕ} {o : Small} → l ≡ field P p 0 → code P l ≡ 0 → o ≡ smallBy (numberAt (code P (p - 1)) (value P (p - 1))) → o ≡ small.Other
-        → left.Other ≡ leftOf (treeOf P p)
-    left-large d h g i = sym (rest d h g ∙ ap restBy i)
+    left-rest d h g i = sym (rem-here ∙ rw (tree-var left-at (rw d at h), number-at right-at, ← g) (ap restBy i))
 
 -- what a tree is packed to: the trees s, u and w stay operands
 pub record IsLeaf (t : Tree) (c m v : ℕ) : Type 0 where
@@ -209,11 +205,11 @@ module _ {P : Pool} {p : ℕ} (s : Plain P p) where
   unfolding pack
   is-int e d = record { is = rw (tree-int s e, d) }
 
-  pub is-nay : {l : ℕ} → code P p ≡ 48 → l ≡ p - 1 → IsOne (T s p) (T s l) 48 0 0
+  pub is-nay : {l : ℕ} → code P p ≡ nayNode → l ≡ p - 1 → IsOne (T s p) (T s l) nayNode 0 0
   unfolding pack
   is-nay e d = record { is = rw (tree-nay s e, d) }
 
-  module _ {l m r : ℕ} {o : Number} (e : code P p ≡ 112) (d : l ≡ field P p 0) (f : m ≡ field P p 1) (g : r ≡ p - 1)
+  module _ {l m r : ℕ} {o : Number} (e : code P p ≡ ternaryNode) (d : l ≡ field P p 0) (f : m ≡ field P p 1) (g : r ≡ p - 1)
       (h : o ≡ numberAt (code P m) (value P m)) where
     number-m : numberOf (T s m) ≡ o
     number-m = number-at (lower s refl (second-in (s .sound) (omega arith)) f .1) ∙ sym h
@@ -229,16 +225,16 @@ module _ {P : Pool} {p : ℕ} (s : Plain P p) where
     is-three i = record { is = cond-is i refl }
 
     pub is-chosen : {v : ℕ} {q : Small} → o ≡ number.Is v → q ≡ smallBy (numberAt (code P r) (value P r)) → q ≡ small.Other
-        → IsTwo (T s p) (T s l) (T s r) 96 v
+        → IsTwo (T s p) (T s l) (T s r) choiceNode v
     is-chosen i j k = record { is = cond-is i (ap smallBy number-r ∙ sym j ∙ k) }
 
     pub is-picked : {v w : ℕ} {q : Small} → o ≡ number.Is v → q ≡ smallBy (numberAt (code P r) (value P r)) → q ≡ small.Is w
-        → IsOne (T s p) (T s l) 49 w v
+        → IsOne (T s p) (T s l) pickNode w v
     is-picked i j k = record { is = cond-is i (ap smallBy number-r ∙ sym j ∙ k) }
 
-  module _ {l r : ℕ} {o : Number} (e : code P p / 16 ≡ 5) (d : l ≡ field P p 0) (f : r ≡ p - 1) (h : o ≡ numberAt (code P r) (value P r)) where
-    op-is : opCode (named s e .op) ≡ code P p % 16
-    op-is = code-is (code P p % 16) (named s e .op) (named s e .is)
+  module _ {l r : ℕ} {o : Number} (e : Pair (code P p)) (d : l ≡ field P p 0) (f : r ≡ p - 1) (h : o ≡ numberAt (code P r) (value P r)) where
+    op-is : opCode (named s e .op) ≡ code P p - pairOp
+    op-is = code-is (code P p - pairOp) (named s e .op) (named s e .is)
 
     bin-is : {k : Left} {i : Number} → leftOf (T s l) ≡ k → o ≡ i → pack (T s p) ≡ packBin (named s e .op) k i (pack (T s l)) (pack (T s r))
     unfolding pack
@@ -248,18 +244,22 @@ module _ {P : Pool} {p : ℕ} (s : Plain P p) where
 
     pub is-two : o ≡ number.Other → IsTwo (T s p) (T s l) (T s r) (code P p) 0
     is-two i =
-        let c : 80 + opCode (named s e .op) ≡ code P p = omega (arith, op-is) in
+        let c : pairOp + opCode (named s e .op) ≡ code P p = omega (arith, op-is) in
         record { is = bin-is refl i ∙ ap (λ (c : ℕ). two c 0 (pack (T s l)) (pack (T s r))) c }
 
     module _ {v : ℕ} {n : Left} (i : o ≡ number.Is v) (j : n ≡ leftOf (T s l)) where
-      pub is-op : n ≡ left.Count → IsLeaf (T s p) (16 + code P p % 16) 0 v
-      is-op g = record { is = bin-is (sym j ∙ g) i ∙ rw op-is }
+      -- an operator's number stays when its code goes to another group
+      moved : (c : ℕ) → c + opCode (named s e .op) ≡ c + code P p - pairOp
+      moved c = omega (arith, op-is, e .0)
 
-      pub is-rest : {m : ℕ} → n ≡ left.Rest m → IsLeaf (T s p) (32 + code P p % 16) m v
-      is-rest g = record { is = bin-is (sym j ∙ g) i ∙ rw op-is }
+      pub is-op : n ≡ left.Count → IsLeaf (T s p) (nOp + code P p - pairOp) 0 v
+      is-op g = record { is = bin-is (sym j ∙ g) i ∙ ap (λ (c : ℕ). leaf c 0 v) (moved nOp) }
 
-      pub is-one : n ≡ left.Other → IsOne (T s p) (T s l) (64 + code P p % 16) 0 v
-      is-one g = record { is = bin-is (sym j ∙ g) i ∙ rw op-is }
+      pub is-rest : {m : ℕ} → n ≡ left.Rest m → IsLeaf (T s p) (restOp + code P p - pairOp) m v
+      is-rest {m} g = record { is = bin-is (sym j ∙ g) i ∙ ap (λ (c : ℕ). leaf c m v) (moved restOp) }
+
+      pub is-one : n ≡ left.Other → IsOne (T s p) (T s l) (valueOp + code P p - pairOp) 0 v
+      is-one g = record { is = bin-is (sym j ∙ g) i ∙ ap (λ (c : ℕ). one c 0 v (pack (T s l))) (moved valueOp) }
 
 -- the room that it takes
 pub size-leaf : {t : Tree} {c m v : ℕ} → IsLeaf t c m v → packedSize t ≡ 1
@@ -298,7 +298,7 @@ done-two e a d h f g =
     record { end = omega (arith, a .end, d .end, size-two e); nodes = rw (e .is, f, d .nodes, d .end, a .nodes, h, a .end) }
 
 pub done-three : {t s u w : Tree} {k b d l m n r : ℕ} {P Q R S O : Pool} → IsThree t s u w → Packs s k P Q m → Packs u m Q R l → Packs w l R S n
-    → b ≡ m - 1 → d ≡ l - 1 → O ≡ push S n 112 b d 0 → r ≡ n + 1 → Packs t k P O r
+    → b ≡ m - 1 → d ≡ l - 1 → O ≡ push S n ternaryNode b d 0 → r ≡ n + 1 → Packs t k P O r
 unfolding packedSize keep nodes
 done-three e x y z h j f g =
     record {
@@ -313,7 +313,7 @@ cond-least (number.Is v) (small.Is m) x y z = omega arith
 cond-least (number.Is v) small.Other x y z = omega arith
 cond-least number.Other q x y z = omega arith
 
-pub cond-room : {P : Pool} {p l : ℕ} → Plain P p → code P p ≡ 112 → l ≡ field P p 0 → packedSize (treeOf P l) < packedSize (treeOf P p)
+pub cond-room : {P : Pool} {p l : ℕ} → Plain P p → code P p ≡ ternaryNode → l ≡ field P p 0 → packedSize (treeOf P l) < packedSize (treeOf P p)
 unfolding packedSize pack
 cond-room {P} {p} s e d =
     rw (tree-cond s e, d)

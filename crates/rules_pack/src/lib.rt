@@ -145,16 +145,43 @@ fn nodes<'a>(
     let left = left_of(codes, places, values, first);
     match left {
         Left::Count => {
-            put(heads, fields, ints, k, node::N_OP + code % 16, 0, 0, v);
+            put(
+                heads,
+                fields,
+                ints,
+                k,
+                node::N_OP + code - node::OP,
+                0,
+                0,
+                v,
+            );
             k + 1
         }
         Left::Rest(m) => {
-            put(heads, fields, ints, k, node::REST_OP + code % 16, m, 0, v);
+            put(
+                heads,
+                fields,
+                ints,
+                k,
+                node::REST_OP + code - node::OP,
+                m,
+                0,
+                v,
+            );
             k + 1
         }
         Left::Other => {
             let n = nodes(codes, places, values, first, heads, fields, ints, k);
-            put(heads, fields, ints, n, node::VALUE_OP + code % 16, 0, 0, v);
+            put(
+                heads,
+                fields,
+                ints,
+                n,
+                node::VALUE_OP + code - node::OP,
+                0,
+                0,
+                v,
+            );
             n + 1
         }
     }

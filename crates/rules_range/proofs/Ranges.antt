@@ -3,7 +3,7 @@ use mathlib.Core.Path.{_≡_, refl, sym, ap, _∙_}
 use mathlib.Core.Bool.{Bool, true, false}
 use mathlib.Core.List.{List}
 use mathlib.Core.Option.{some}
-use Prim.Native.Nat.{ℕ, _+_, _-_, _*_, _/_, _%_, _^_, _<_, _≤_, min, max}
+use Prim.Native.Nat.{ℕ, _+_, _-_, _*_, _/_, _^_, _<_, _≤_, min, max}
 use native.Mathlib.Omega.{arith}
 use native.Mathlib.Nat.{mul-zero, mul-le-mul, le-div-iff-mul-le}
 use lib.Dec.{ltb, leb, eqb}
@@ -11,11 +11,11 @@ use borrow.Author.Tests.{ltb-true, ltb-false, leb-true, leb-false, eqb-true, eqb
 use Rattle.rules.specs.declared.Rating.{Rating}
 use Rattle.rules.specs.declared.Rating.the-variants.{Range, Unrated}
 use Rattle.rules.specs.Tree.{Tree, Op, cmp, calc, and, or, rem, div, var, int, nay, bin, cond, Calc, plus, minus, times}
-use Rattle.rules.specs.Operator.{opOf, opAt, opCode, Named}
+use Rattle.rules.specs.Operator.{opOf, opAt, opCode}
 use Rattle.rules.specs.Range.{fullRange, rateTree, kept, opRange, notRange, binRange, condRange}
-use Rattle.rules.specs.Pool.{Pool, code, field, value, leaf, one, two, joined, treeOf}
+use Rattle.rules.specs.Pool.{Pool, code, field, value, leaf, one, two, joined, treeOf, nOp, restOp, nayNode, valueOp, pairOp, choiceNode, ternaryNode}
 use Rattle.rules.specs.Promise.{Sound}
-use Rattle.rules.proofs.Operators.{code-is, op-at}
+use Rattle.rules.proofs.Operators.{named, code-is, op-at}
 use Rattle.rules.proofs.InRange.{ordered}
 use Rattle.rules_operators.proofs.Operators.{is-rem, is-div}
 use Rattle.rules.proofs.Trees.{tree-leaf, tree-one, tree-two, tree-three, leaf-op, leaf-rest, one-op, two-op}
@@ -182,73 +182,78 @@ module _ (P : Pool) (p : ℕ) where
   rate-count e = rw (tree-leaf P p (omega arith), e)
 
   module _ {v : Rating} (w : v ≡ Value) where
-    pub rate-int : (code P p ≡ 0 → ⊥) → code P p < 16 → v ≡ ra p
+    pub rate-int : (code P p ≡ 0 → ⊥) → code P p < nOp → v ≡ ra p
     unfolding rateTree
-    rate-int d h = rw (tree-leaf P p (omega arith), leaf, lt-ltb (code P p) 16 h, ne-eqb (code P p) 0 d) w
+    rate-int d h = rw (tree-leaf P p (omega arith), leaf, lt-ltb (code P p) nOp h, ne-eqb (code P p) 0 d) w
 
-    pub rate-op : {r : Rating} → 15 < code P p → code P p < 32 → Named (code P p % 16) → Joins (code P p % 16) Count v r → r ≡ ra p
+    pub rate-op : {r : Rating} → nOp ≤ code P p → code P p < restOp → Joins (code P p - nOp) Count v r → r ≡ ra p
     unfolding rateTree
-    rate-op h l k e = rw (tree-leaf P p (omega arith), leaf-op (code P p) (field P p 0) (value P p) (k .is) h l, ← w) (e .is (k .op) (k .is))
+    rate-op h l e =
+        let k = named (code P p - nOp) (omega arith) in
+        rw (tree-leaf P p (omega arith), leaf-op (code P p) (field P p 0) (value P p) (k .is) h l, ← w) (e .is (k .op) (k .is))
 
-    pub rate-rest : {x r : Rating} {m : ℕ} → 31 < code P p → code P p < 48 → Named (code P p % 16) → m ≡ field P p 0 → x ≡ binRange rem Count (Range m m)
-        → Joins (code P p % 16) x v r → r ≡ ra p
+    pub rate-rest : {x r : Rating} {m : ℕ} → restOp ≤ code P p → code P p < nayNode → m ≡ field P p 0 → x ≡ binRange rem Count (Range m m)
+        → Joins (code P p - restOp) x v r → r ≡ ra p
     unfolding rateTree
-    rate-rest h l k d f e =
+    rate-rest h l d f e =
+        let k = named (code P p - restOp) (omega arith) in
         rw (tree-leaf P p l, leaf-rest (code P p) (field P p 0) (value P p) (k .is) h, ← w, ← d, ← f) (e .is (k .op) (k .is))
 
   module _ {b : Rating} (a : p - 1 < p) (g : b ≡ ra (p - 1)) where
-    pub rate-nay : {r : Rating} → code P p ≡ 48 → r ≡ notRange b → r ≡ ra p
+    pub rate-nay : {r : Rating} → code P p ≡ nayNode → r ≡ notRange b → r ≡ ra p
     unfolding rateTree
     rate-nay h e = rw (tree-one P p (omega arith) (omega arith) a, h, ← g) e
 
     -- an operand that has none
-    pub rate-none : 47 < code P p → code P p < 80 → (63 < code P p → Named (code P p % 16)) → b ≡ Unrated → b ≡ ra p
+    pub rate-none : nayNode ≤ code P p → code P p < pairOp → b ≡ Unrated → b ≡ ra p
     unfolding rateTree notRange condRange binRange
-    rate-none h l k e = e ∙ rw (tree-one P p h l a, one) (go (eqb (code P p) 48) (ltb (code P p) 64) refl)
+    rate-none h l e = e ∙ rw (tree-one P p h l a, one) (go (eqb (code P p) nayNode) (ltb (code P p) valueOp))
       where
         u : Unrated ≡ ra (p - 1)
         u = sym e ∙ g
 
-        go : (i j : Bool) → ltb (code P p) 64 ≡ j → Unrated ≡ rateTree (elim i [ true ↦ nay (treeOf P (p - 1)) | false ↦ elim j [ true ↦ cond (treeOf P (p - 1)) (int (value P p)) (int (field P p 0)) | false ↦ joined (opOf (code P p % 16)) (treeOf P (p - 1)) (int (value P p)) ] ])
-        go true j f = rw (← u)
-        go false true f = rw (← u)
-        go false false f = rw (k (ltb-false (code P p) 64 f) .is, ← u)
+        go : (i j : Bool) → Unrated ≡ rateTree (elim i [ true ↦ nay (treeOf P (p - 1)) | false ↦ elim j [ true ↦ cond (treeOf P (p - 1)) (int (value P p)) (int (field P p 0)) | false ↦ joined (opOf (code P p - valueOp)) (treeOf P (p - 1)) (int (value P p)) ] ])
+        go true j = rw (← u)
+        go false true = rw (← u)
+        go false false = rw (named (code P p - valueOp) (omega arith) .is, ← u)
 
-    pub rate-picked : {v m r : Rating} → 47 < code P p → (code P p ≡ 48 → ⊥) → code P p < 64 → v ≡ Value → m ≡ Small → r ≡ condRange b v m → r ≡ ra p
+    pub rate-picked : {v m r : Rating} → nayNode ≤ code P p → (code P p ≡ nayNode → ⊥) → code P p < valueOp → v ≡ Value → m ≡ Small → r ≡ condRange b v m → r ≡ ra p
     unfolding rateTree
     rate-picked h d l w f e =
-        rw (tree-one P p h (omega arith) a, one, ne-eqb (code P p) 48 d, lt-ltb (code P p) 64 l, ← g, ← w, ← f) e
+        rw (tree-one P p h (omega arith) a, one, ne-eqb (code P p) nayNode d, lt-ltb (code P p) valueOp l, ← g, ← w, ← f) e
 
-    pub rate-one : {v r : Rating} → 63 < code P p → code P p < 80 → Named (code P p % 16) → v ≡ Value → Joins (code P p % 16) b v r → r ≡ ra p
+    pub rate-one : {v r : Rating} → valueOp ≤ code P p → code P p < pairOp → v ≡ Value → Joins (code P p - valueOp) b v r → r ≡ ra p
     unfolding rateTree
-    rate-one h l k w e =
-        rw (tree-one P p (omega arith) l a, one-op (code P p) (field P p 0) (value P p) (treeOf P (p - 1)) (treeOf P (p - 1)) (k .is) h, ← g, ← w)
+    rate-one h l w e =
+        let k = named (code P p - valueOp) (omega arith) in
+        rw (tree-one P p (omega arith) l a, one-op (code P p) (field P p 0) (value P p) (treeOf P (p - 1)) (k .is) h, ← g, ← w)
         (e .is (k .op) (k .is))
 
     module _ {x : Rating} (f : field P p 0 < p) (i : x ≡ ra (field P p 0)) where
-      pub rate-two : {r : Rating} → 79 < code P p → code P p < 96 → Named (code P p % 16) → Joins (code P p % 16) x b r → r ≡ ra p
+      pub rate-two : {r : Rating} → pairOp ≤ code P p → code P p < choiceNode → Joins (code P p - pairOp) x b r → r ≡ ra p
       unfolding rateTree
-      rate-two h l k e =
-          rw (tree-two P p h (omega arith) a f, two-op (code P p) 0 (value P p) (treeOf P (field P p 0)) (treeOf P (p - 1)) (k .is) l, ← g, ← i)
+      rate-two h l e =
+          let k = named (code P p - pairOp) (omega arith) in
+          rw (tree-two P p h (omega arith) a f, two-op (code P p) (value P p) (treeOf P (field P p 0)) (treeOf P (p - 1)) (k .is) l, ← g, ← i)
           (e .is (k .op) (k .is))
 
       -- a condition that has none
-      pub rate-no-condition : 95 < code P p → (111 < code P p → field P p 1 < p) → {m n : ℕ} → x ≡ Unrated → (m ≡ 1) × (n ≡ 0) → fromTo m n ≡ ra p
+      pub rate-no-condition : choiceNode ≤ code P p → (ternaryNode ≤ code P p → field P p 1 < p) → {m n : ℕ} → x ≡ Unrated → (m ≡ 1) × (n ≡ 0) → fromTo m n ≡ ra p
       unfolding rateTree condRange
-      rate-no-condition h s e d = none-by d ∙ go (ltb (code P p) 112) refl
+      rate-no-condition h s e d = none-by d ∙ go (ltb (code P p) ternaryNode) refl
         where
           u : Unrated ≡ ra (field P p 0)
           u = sym e ∙ i
 
-          go : (j : Bool) → ltb (code P p) 112 ≡ j → Unrated ≡ ra p
-          go true q = rw (tree-two P p (omega arith) (ltb-true (code P p) 112 q) a f, two, le-ltb (code P p) 96 h, ← u)
-          go false q = let j : 111 < code P p = ltb-false (code P p) 112 q in rw (tree-three P p j a f (s j), ← u)
+          go : (j : Bool) → ltb (code P p) ternaryNode ≡ j → Unrated ≡ ra p
+          go true q = rw (tree-two P p (omega arith) (ltb-true (code P p) ternaryNode q) a f, two, le-ltb (code P p) choiceNode h, ← u)
+          go false q = let j : ternaryNode ≤ code P p = ltb-false (code P p) ternaryNode q in rw (tree-three P p j a f (s j), ← u)
 
-      pub rate-chosen : {v r : Rating} → 95 < code P p → code P p < 112 → v ≡ Value → r ≡ condRange x v b → r ≡ ra p
+      pub rate-chosen : {v r : Rating} → choiceNode ≤ code P p → code P p < ternaryNode → v ≡ Value → r ≡ condRange x v b → r ≡ ra p
       unfolding rateTree
-      rate-chosen h l w e = rw (tree-two P p (omega arith) l a f, two, le-ltb (code P p) 96 h, ← g, ← i, ← w) e
+      rate-chosen h l w e = rw (tree-two P p (omega arith) l a f, two, le-ltb (code P p) choiceNode h, ← g, ← i, ← w) e
 
-      pub rate-three : {y r : Rating} → 111 < code P p → field P p 1 < p → y ≡ ra (field P p 1) → r ≡ condRange x y b → r ≡ ra p
+      pub rate-three : {y r : Rating} → ternaryNode ≤ code P p → field P p 1 < p → y ≡ ra (field P p 1) → r ≡ condRange x y b → r ≡ ra p
       unfolding rateTree
       rate-three h s j e = rw (tree-three P p h a f s, ← g, ← i, ← j) e
 

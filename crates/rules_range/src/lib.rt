@@ -14,7 +14,7 @@ ghost use lib.Dec.{ltb};
 ghost use Rattle.rules.specs.declared.Rating.the-variants as rating;
 ghost use Rattle.rules.specs.Tree.{rem};
 ghost use Rattle.rules.specs.Range.{fullRange, binRange, condRange, rateTree};
-ghost use Rattle.rules.specs.Pool.{pool, treeOf};
+ghost use Rattle.rules.specs.Pool.{pool, treeOf, nayNode, pairOp};
 ghost use Rattle.rules.specs.Promise.{Sound};
 ghost use Rattle.rules.specs.Answer.{ratedOf, fitOf};
 ghost use Rattle.rules_range.specs.Private.{Calculates, Ranges, Joins, fromTo, Lifts};
@@ -166,7 +166,7 @@ fn leaf<'a>(
     high: &mut u64,
 ) -> u64
     requires sound { ⌜ Sound (pool (now codes) (now places) (now values)) at ⌝ }
-    requires leaf { ⌜ getD (now codes) at 0 < 48 ⌝ }
+    requires leaf { ⌜ getD (now codes) at 0 < nayNode ⌝ }
     ensures { λ r. ⌜ fromTo r (now (high .exit)) ≡ rateTree (treeOf (pool (now (codes .entry)) (now (places .entry)) (now (values .entry))) at) ⌝ }
 {
     let code = codes[at];
@@ -179,11 +179,11 @@ fn leaf<'a>(
         return v;
     }
     if code < node::REST_OP {
-        return binary(code % 16, 0, LARGEST, v, high);
+        return binary(code - node::N_OP, 0, LARGEST, v, high);
     }
     let mut h = 0;
     let k = rest(small(places, at), &mut h);
-    binary(code % 16, k, h, v, high)
+    binary(code - node::REST_OP, k, h, v, high)
 }
 
 // The range of a node with one operand, by its operand's.
@@ -196,7 +196,7 @@ fn one<'a>(
     high: &mut u64,
 ) -> u64
     requires sound { ⌜ Sound (pool (now codes) (now places) (now values)) at ⌝ }
-    requires one { ⌜ (47 < getD (now codes) at 0) × (getD (now codes) at 0 < 80) ⌝ }
+    requires one { ⌜ (nayNode ≤ getD (now codes) at 0) × (getD (now codes) at 0 < pairOp) ⌝ }
     ensures { λ r. ⌜ Lifts (pool (now (codes .entry)) (now (places .entry)) (now (values .entry))) (at - 1) at
         low (now (high .entry)) r (now (high .exit)) ⌝ }
 {
@@ -215,7 +215,7 @@ fn one<'a>(
         return either(v, v, m, high);
     }
     *high = v;
-    binary(code % 16, low, h, v, high)
+    binary(code - node::VALUE_OP, low, h, v, high)
 }
 
 // The range of a node with operands, by its last one's, which is the node before.
@@ -228,7 +228,7 @@ fn above<'a>(
     high: &mut u64,
 ) -> u64
     requires sound { ⌜ Sound (pool (now codes) (now places) (now values)) at ⌝ }
-    requires above { ⌜ 47 < getD (now codes) at 0 ⌝ }
+    requires above { ⌜ nayNode ≤ getD (now codes) at 0 ⌝ }
     ensures { λ r. ⌜ Lifts (pool (now (codes .entry)) (now (places .entry)) (now (values .entry))) (at - 1) at
         low (now (high .entry)) r (now (high .exit)) ⌝ }
 {
@@ -239,7 +239,7 @@ fn above<'a>(
     let mut h = 0;
     let first = rate(codes, places, values, place(places, at, 0), &mut h);
     if code < node::CHOICE {
-        return binary(code % 16, first, h, low, high);
+        return binary(code - node::OP, first, h, low, high);
     }
     if h < first {
         return ends(1, 0, high);

@@ -1,5 +1,5 @@
 -- Worked trees and pools and their texts, computed; and the answers for buffers of several lengths.
-use Prim.Native.Nat.{ℕ}
+use Prim.Native.Nat.{ℕ, _+_}
 use Prim.Native.String as Str
 use mathlib.Core.Path.{_≡_, refl}
 use mathlib.Core.List.{List, [], _∷_, map}
@@ -7,7 +7,7 @@ use lib.ListN.{length}
 use Rattle.text.specs.Bytes.{bytes}
 use Rattle.rules.specs.Tree.{Tree, var, int, nay, bin, cond, cmp, and, or, rem, eq, ne, ge, le, gt, lt}
 use Rattle.rules.specs.Operator.{opOf, opAt}
-use Rattle.rules.specs.Pool.{Pool, pool, treeAt, treeOf, operandsTo, operands, allBelow, used, member, distinct, shaped, isTree}
+use Rattle.rules.specs.Pool.{Pool, pool, treeAt, treeOf, operandsTo, operands, allBelow, used, member, distinct, shaped, isTree, nOp, restOp, nayNode, pickNode, valueOp, pairOp, choiceNode, ternaryNode}
 use Rattle.rules_text.specs.declared.Writing.{Writing}
 use Rattle.rules_text.specs.declared.Writing.the-variants.{Length, TooLong, NoTree}
 use Rattle.rules_text.specs.Bracketed.{decimalIn, decimal, bracketed}
@@ -36,7 +36,7 @@ texts-hold = refl
 abbrev P : Pool
 P =
     pool
-    (16 ∷ 33 ∷ 86 ∷ 49 ∷ 68 ∷ 48 ∷ 0 ∷ 96 ∷ 1 ∷ 1 ∷ 112 ∷ [])
+    (nOp ∷ (restOp + 1) ∷ (pairOp + 6) ∷ pickNode ∷ (valueOp + 4) ∷ nayNode ∷ 0 ∷ choiceNode ∷ 1 ∷ 1 ∷ ternaryNode ∷ [])
     (0 ∷ 0 ∷ 10 ∷ 0 ∷ 0 ∷ 0 ∷ 2 ∷ 0 ∷ 0 ∷ 0 ∷ 0 ∷ 0 ∷ 0 ∷ 0 ∷ 5 ∷ 0 ∷ 0 ∷ 0 ∷ 0 ∷ 0 ∷ 7 ∷ 8 ∷ [])
     (1 ∷ 11 ∷ 0 ∷ 0 ∷ 100 ∷ 0 ∷ 0 ∷ 3 ∷ 0 ∷ 7 ∷ 0 ∷ [])
 

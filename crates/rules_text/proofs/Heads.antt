@@ -10,7 +10,7 @@ use lib.ListN.{length}
 use lib.Dec.{leb}
 use borrow.Author.Tests.{leb-true, leb-false}
 use Rattle.text.proofs.Tests.{taken, left, by-test}
-use Rattle.rules.specs.Pool.{Pool, code, treeOf}
+use Rattle.rules.specs.Pool.{Pool, code, treeOf, nayNode, ternaryNode}
 use Rattle.rules.specs.Promise.{Sound}
 use Rattle.rules_tree.specs.Promise.{Stands}
 use Rattle.rules_tree.proofs.Runs.{down-to, leaf-last}
@@ -79,7 +79,7 @@ module _ (P : Pool) (p : ℕ) where
   pub leaf-put : {q at i r : ℕ} {x y z : List ℕ} → PutsHeads P p q at x y i → PutsTree (treeOf P q) i y z r → PutsTo P p q at x z r
   leaf-put a b = record { text = joined (a .text) (b .text); bounded = (a .bounded, b .bounded) }
 
-  tail-put : {q at i r : ℕ} {x y z : List ℕ} → Sound P p → q < p → 47 < code P (q + 1) → PutsTo P p q at x y i
+  tail-put : {q at i r : ℕ} {x y z : List ℕ} → Sound P p → q < p → nayNode ≤ code P (q + 1) → PutsTo P p q at x y i
       → PutsTail P (q + 1) i y z r → PutsTo P p (q + 1) at x z r
   tail-put {q} s l h a b =
       record {
@@ -113,7 +113,7 @@ pub record Grows (P : Pool) (p q : ℕ) (u : List ℕ) (i r : ℕ) (v : List ℕ
 pub no-growth : (P : Pool) (p q : ℕ) {u : List ℕ} {i : ℕ} → Grows P p q u i q u i
 no-growth P p q = record { is = λ at x w. w }
 
-pub growth : (P : Pool) (p : ℕ) {q i r j k : ℕ} {u v w : List ℕ} → Sound P p → r < p → 47 < code P (r + 1) → Grows P p q u i r v j
+pub growth : (P : Pool) (p : ℕ) {q i r j k : ℕ} {u v w : List ℕ} → Sound P p → r < p → nayNode ≤ code P (r + 1) → Grows P p q u i r v j
     → PutsTail P (r + 1) j v w k → Grows P p q u i (r + 1) w k
 growth P p s l h g b = record { is = λ at x a. tail-put P p s l h (g .is at x a) b }
 
@@ -122,5 +122,5 @@ pub falls-to : {P : Pool} {p q x t : ℕ} → Sound P p → 2 * p ≡ t → x < 
 falls-to s e l d = (omega arith, down-to s (omega arith))
 
 -- where the way down ends
-pub at-leaf : {P : Pool} {p q r : ℕ} → Sound P p → Stands (P .codes) p 128 r → r ≤ q → q ≤ r → Sound P q × (code P q < 48)
+pub at-leaf : {P : Pool} {p q r : ℕ} → Sound P p → Stands (P .codes) p (ternaryNode + 1) r → r ≤ q → q ≤ r → Sound P q × (code P q < nayNode)
 at-leaf {P} {p} {q} {r} s t h l = let e : q ≡ r = omega arith in (down-to s (omega (arith, t .run .below)), rw e (leaf-last s t))

@@ -1,5 +1,5 @@
 -- What the node at a place of a pool is, by its code; and its text around that of the node before.
-use Prim.Native.Nat.{ℕ, _-_, _<_, _%_}
+use Prim.Native.Nat.{ℕ, _-_, _<_, _≤_}
 use mathlib.Core.Path.{_≡_, refl, sym, ap, _∙_}
 use mathlib.Core.List.{List, [], _∷_, _++_, append-assoc}
 use native.Mathlib.Omega.{arith}
@@ -8,9 +8,10 @@ use borrow.Author.Tests.{lt-ltb, le-ltb, ne-eqb, ltb-true, ltb-false, eqb-true, 
 use Rattle.text.proofs.Tests.{by-test}
 use Rattle.rules.specs.Tree.{Tree, var, int, nay, bin, cond, Op, rem}
 use Rattle.rules.specs.Operator.{Named}
-use Rattle.rules.specs.Pool.{Pool, code, field, value, one, two, treeOf}
+use Rattle.rules.specs.Pool.{Pool, code, field, value, one, two, treeOf, nOp, restOp, nayNode, valueOp, pairOp, choiceNode, ternaryNode}
 use Rattle.rules.specs.Promise.{Sound}
-use Rattle.rules.proofs.Trees.{op-low, op-high, before-in, first-in, second-in, tree-leaf, tree-one, tree-two, tree-three, leaf-op, leaf-rest, one-op, two-op}
+use Rattle.rules.proofs.Operators.{named}
+use Rattle.rules.proofs.Trees.{before-in, first-in, second-in, tree-leaf, tree-one, tree-two, tree-three, leaf-op, leaf-rest, one-op, two-op}
 use Rattle.rules_text.specs.Bracketed.{decimal, signOf, bracketed}
 use Rattle.rules_text.specs.Bounded.{Bounded}
 use Rattle.rules_text.specs.Private.{leadOf, headOf, tailOf, HeadBounded, TailBounded}
@@ -40,75 +41,68 @@ cond-text : (x y b : Tree) → bracketed (cond x y b) ≡ 40 ∷ (bracketed x ++
 unfolding bracketed
 cond-text x y b = ap (λ (l : List ℕ). 40 ∷ l ++ 41 ∷ []) (sym (append-assoc (bracketed x ++ 63 ∷ bracketed y) (58 ∷ []) (bracketed b)))
 
--- a binary operator
-pub record Binary (P : Pool) (p : ℕ) (s t : Tree) : Type 0 where
-  pub named : Named (code P p % 16)
+-- a binary operator, with a code of the group that begins at g
+pub record Binary (P : Pool) (p g : ℕ) (s t : Tree) : Type 0 where
+  pub named : Named (code P p - g)
   pub is : treeOf P p ≡ bin (named .op) s t
 
-module _ {P : Pool} {p : ℕ} (s : Sound P p) where
-  pub n-op : 15 < code P p → code P p < 32 → Binary P p var (int (value P p))
+module _ (P : Pool) (p : ℕ) where
+  pub n-op : nOp ≤ code P p → code P p < restOp → Binary P p nOp var (int (value P p))
   n-op h l =
-      let k : Named (code P p % 16) = op-low s h (omega arith) in
+      let k = named (code P p - nOp) (omega arith) in
       record { named = k; is = tree-leaf P p (omega arith) ∙ leaf-op (code P p) (field P p 0) (value P p) (k .is) h l }
 
-  pub rest-op : 31 < code P p → code P p < 48 → Binary P p (bin rem var (int (field P p 0))) (int (value P p))
+  pub rest-op : restOp ≤ code P p → code P p < nayNode → Binary P p restOp (bin rem var (int (field P p 0))) (int (value P p))
   rest-op h l =
-      let k : Named (code P p % 16) = op-low s (omega arith) l in
+      let k = named (code P p - restOp) (omega arith) in
       record { named = k; is = tree-leaf P p l ∙ leaf-rest (code P p) (field P p 0) (value P p) (k .is) h }
 
-  value-op : 63 < code P p → code P p < 80 → Binary P p (treeOf P (p - 1)) (int (value P p))
+module _ {P : Pool} {p : ℕ} (s : Sound P p) where
+  value-op : valueOp ≤ code P p → code P p < pairOp → Binary P p valueOp (treeOf P (p - 1)) (int (value P p))
   value-op h l =
-      let k : Named (code P p % 16) = op-high s h (omega arith) in
-      record {
-        named = k;
-        is = tree-one P p (omega arith) l (before-in s (omega arith))
-            ∙ one-op (code P p) (field P p 0) (value P p) (treeOf P (p - 1)) (treeOf P (p - 1)) (k .is) h;
-      }
+      let k = named (code P p - valueOp) (omega arith) in
+      record { named = k; is = tree-one P p (omega arith) l (before-in s (omega arith)) ∙ one-op (code P p) (field P p 0) (value P p) _ (k .is) h }
 
-  op : 79 < code P p → code P p < 96 → Binary P p (treeOf P (field P p 0)) (treeOf P (p - 1))
+  op : pairOp ≤ code P p → code P p < choiceNode → Binary P p pairOp (treeOf P (field P p 0)) (treeOf P (p - 1))
   op h l =
-      let k : Named (code P p % 16) = op-high s (omega arith) l in
-      record {
-        named = k;
-        is = tree-two P p h (omega arith) (before-in s (omega arith)) (first-in s h)
-            ∙ two-op (code P p) 0 (value P p) (treeOf P (field P p 0)) (treeOf P (p - 1)) (k .is) l;
-      }
+      let k = named (code P p - pairOp) (omega arith) in
+      record { named = k; is = tree-two P p h (omega arith) (before-in s (omega arith)) (first-in s h) ∙ two-op (code P p) (value P p) _ _ (k .is) l }
 
-  negation : code P p ≡ 48 → treeOf P p ≡ nay (treeOf P (p - 1))
+  negation : code P p ≡ nayNode → treeOf P p ≡ nay (treeOf P (p - 1))
   negation e = tree-one P p (omega arith) (omega arith) (before-in s (omega arith)) ∙ rw e
 
-  pick : 48 < code P p → code P p < 64 → treeOf P p ≡ cond (treeOf P (p - 1)) (int (value P p)) (int (field P p 0))
+  pick : nayNode < code P p → code P p < valueOp → treeOf P p ≡ cond (treeOf P (p - 1)) (int (value P p)) (int (field P p 0))
   pick h l =
       tree-one P p (omega arith) (omega arith) (before-in s (omega arith))
-      ∙ rw (one, ne-eqb (code P p) 48 (omega arith), lt-ltb (code P p) 64 l)
+      ∙ rw (one, ne-eqb (code P p) nayNode (omega arith), lt-ltb (code P p) valueOp l)
 
-  choice : 95 < code P p → code P p < 112 → treeOf P p ≡ cond (treeOf P (field P p 0)) (int (value P p)) (treeOf P (p - 1))
+  choice : choiceNode ≤ code P p → code P p < ternaryNode → treeOf P p ≡ cond (treeOf P (field P p 0)) (int (value P p)) (treeOf P (p - 1))
   choice h l =
-      tree-two P p (omega arith) l (before-in s (omega arith)) (first-in s (omega arith)) ∙ rw (two, le-ltb (code P p) 96 h)
+      tree-two P p (omega arith) l (before-in s (omega arith)) (first-in s (omega arith)) ∙ rw (two, le-ltb (code P p) choiceNode h)
 
-  three : 111 < code P p → treeOf P p ≡ cond (treeOf P (field P p 0)) (treeOf P (field P p 1)) (treeOf P (p - 1))
+  three : ternaryNode ≤ code P p → treeOf P p ≡ cond (treeOf P (field P p 0)) (treeOf P (field P p 1)) (treeOf P (p - 1))
   three h = tree-three P p h (before-in s (omega arith)) (first-in s (omega arith)) (second-in s h)
 
   -- the text of a node with operands, around that of the node before; and its integers are those of its operands
-  pub around : 47 < code P p → (bracketed (treeOf P p) ≡ headOf P p ++ bracketed (treeOf P (p - 1)) ++ tailOf P p) × (HeadBounded P p → Bounded (treeOf P (p - 1)) → TailBounded P p → Bounded (treeOf P p))
+  pub around : nayNode ≤ code P p → (bracketed (treeOf P p) ≡ headOf P p ++ bracketed (treeOf P (p - 1)) ++ tailOf P p) × (HeadBounded P p → Bounded (treeOf P (p - 1)) → TailBounded P p → Bounded (treeOf P p))
   unfolding bracketed
   around h =
-      by-test _ (eqb (code P p) 48)
+      by-test _ (eqb (code P p) nayNode)
       (λ e.
-      let d = eqb-true _ 48 e in
+      let d = eqb-true _ nayNode e in
       rw (negation d, headOf, tailOf, HeadBounded, TailBounded, e) (nay-text (treeOf P (p - 1)), λ a b c. b)) (λ e.
-      by-test _ (ltb (code P p) 64)
+      by-test _ (ltb (code P p) valueOp)
       (λ f.
-      let l : code P p < 64 = ltb-true _ 64 f in
-      let k : 48 < code P p = omega (arith, eqb-false (code P p) 48 e) in
-      rw (pick k l, headOf, tailOf, HeadBounded, TailBounded, e, f, lt-ltb (code P p) 80 (omega arith)) (pick-text (treeOf P (p - 1)) (value P p) (field P p 0), λ a b c. (b, c .0, c .1)))
+      let l : code P p < valueOp = ltb-true _ valueOp f in
+      let k : nayNode < code P p = omega (arith, eqb-false (code P p) nayNode e) in
+      rw (pick k l, headOf, tailOf, HeadBounded, TailBounded, e, f, lt-ltb (code P p) pairOp (omega arith)) (pick-text (treeOf P (p - 1)) (value P p) (field P p 0), λ a b c. (b, c .0, c .1)))
       (λ f.
-      by-test _ (ltb (code P p) 80)
-      (λ g. let w = value-op (ltb-false _ 64 f) (ltb-true _ 80 g) in rw (w .is, headOf, leadOf, tailOf, HeadBounded, TailBounded, e, f, g, w .named .is) (value-text (w .named .op) (treeOf P (p - 1)) (value P p), λ a b c. (b, c)))
+      by-test _ (ltb (code P p) pairOp)
+      (λ g. let w = value-op (ltb-false _ valueOp f) (ltb-true _ pairOp g) in rw (w .is, headOf, leadOf, tailOf, HeadBounded, TailBounded, e, f, g, w .named .is) (value-text (w .named .op) (treeOf P (p - 1)) (value P p), λ a b c. (b, c)))
       (λ g.
-      by-test _ (ltb (code P p) 96)
-      (λ i. let w = op (ltb-false _ 80 g) (ltb-true _ 96 i) in rw (w .is, headOf, leadOf, tailOf, HeadBounded, TailBounded, e, f, g, i, w .named .is) (op-text (w .named .op) (treeOf P (field P p 0)) (treeOf P (p - 1)), λ a b c. (a, b)))
+      by-test _ (ltb (code P p) choiceNode)
+      (λ i. let w = op (ltb-false _ pairOp g) (ltb-true _ choiceNode i) in rw (w .is, headOf, leadOf, tailOf, HeadBounded, TailBounded, e, f, g, i, w .named .is) (op-text (w .named .op) (treeOf P (field P p 0)) (treeOf P (p - 1)), λ a b c. (a, b)))
       (λ i.
-      by-test _ (ltb (code P p) 112)
-      (λ j. rw (choice (ltb-false _ 96 i) (ltb-true _ 112 j), headOf, leadOf, tailOf, HeadBounded, TailBounded, e, f, g, i, j) (cond-text (treeOf P (field P p 0)) (int (value P p)) (treeOf P (p - 1)), λ a b c. (a .0, a .1, b)))
-      (λ j. rw (three (ltb-false _ 112 j), headOf, leadOf, tailOf, HeadBounded, TailBounded, e, f, g, i, j) (cond-text (treeOf P (field P p 0)) (treeOf P (field P p 1)) (treeOf P (p - 1)), λ a b c. (a .0, a .1, b)))))))
+      by-test _ (ltb (code P p) ternaryNode)
+      (λ j. rw (choice (ltb-false _ choiceNode i) (ltb-true _ ternaryNode j), headOf, leadOf, tailOf, HeadBounded, TailBounded, e, f, g, i, j) (cond-text (treeOf P (field P p 0)) (int (value P p)) (treeOf P (p - 1)), λ a b c. (a .0, a .1, b)))
+      (λ j. rw (three (ltb-false _ ternaryNode j), headOf, leadOf, tailOf, HeadBounded, TailBounded, e, f, g, i, j) (cond-text (treeOf P (field P p 0)) (treeOf P (field P p 1)) (treeOf P (p - 1)), λ a b c. (a .0, a .1, b)))))))

@@ -1,5 +1,5 @@
 -- The text of a tree is put by putting its parts' texts one after the other.
-use Prim.Native.Nat.{ℕ, _%_, _<_}
+use Prim.Native.Nat.{ℕ, _-_, _<_, _≤_}
 use mathlib.Core.Path.{_≡_, sym, ap, _∙_}
 use mathlib.Core.List.{List, [], _∷_, _++_}
 use native.Mathlib.Omega.{arith}
@@ -7,7 +7,7 @@ use borrow.Author.Tests.{lt-ltb, le-ltb, eq-eqb, ne-eqb}
 use mathlib.Core.Option.{Option}
 use Rattle.rules.specs.Tree.{Tree, Op, var, int, bin, rem}
 use Rattle.rules.specs.Operator.{opOf}
-use Rattle.rules.specs.Pool.{Pool, code, field, value, leaf, treeOf}
+use Rattle.rules.specs.Pool.{Pool, code, field, value, leaf, treeOf, nOp, nayNode, valueOp, pairOp, choiceNode, ternaryNode}
 use Rattle.rules.proofs.Trees.{tree-leaf}
 use Rattle.rules_text.specs.Bracketed.{decimal, bracketed}
 use Rattle.rules_text.specs.Private.{signBy, leadOf, headOf, tailOf, Puts, PutsTree, PutsValue, PutsHead, PutsTail, HeadBounded, TailBounded}
@@ -39,13 +39,13 @@ module _ (P : Pool) (p : ℕ) {at : ℕ} where
   pub put-count : {r : ℕ} {x y : List ℕ} → code P p ≡ 0 → Puts (110 ∷ []) at x y r → PutsTree (treeOf P p) at x y r
   put-count h w = let e : treeOf P p ≡ var = tree-leaf P p (omega arith) ∙ rw h in rw e (put-n w)
 
-  pub put-integer : {r : ℕ} {x y : List ℕ} → (code P p ≡ 0 → ⊥) → code P p < 16 → PutsTree (int (value P p)) at x y r → PutsTree (treeOf P p) at x y r
+  pub put-integer : {r : ℕ} {x y : List ℕ} → (code P p ≡ 0 → ⊥) → code P p < nOp → PutsTree (int (value P p)) at x y r → PutsTree (treeOf P p) at x y r
   put-integer d h w =
-      let e : treeOf P p ≡ int (value P p) = tree-leaf P p (omega arith) ∙ rw (leaf, lt-ltb (code P p) 16 h, ne-eqb (code P p) 0 d) in
+      let e : treeOf P p ≡ int (value P p) = tree-leaf P p (omega arith) ∙ rw (leaf, lt-ltb (code P p) nOp h, ne-eqb (code P p) 0 d) in
       rw e w
 
-  pub put-binary : {s : Tree} {i j r : ℕ} {u v w x : List ℕ} → Binary P p s (int (value P p)) → Puts (40 ∷ []) at u v i → PutsTree s i v w j
-      → PutsValue (code P p % 16) (value P p) j w x r → PutsTree (treeOf P p) at u x r
+  pub put-binary : {s : Tree} {g i j r : ℕ} {u v w x : List ℕ} → Binary P p g s (int (value P p)) → Puts (40 ∷ []) at u v i → PutsTree s i v w j
+      → PutsValue (code P p - g) (value P p) j w x r → PutsTree (treeOf P p) at u x r
   put-binary {s} b a c d =
       record {
         text = reworded (ap bracketed (b .is) ∙ value-text (b .named .op) s (value P p)) (joined (joined a (c .text)) (reworded (ap (λ (o : Option Op). signBy o ++ decimal (value P p) ++ 41 ∷ []) (sym (b .named .is))) (d .text)));
@@ -58,73 +58,73 @@ placed P e w = rw (← e) w
 
 -- what stands before and after the node before
 module _ (P : Pool) (p : ℕ) {at : ℕ} where
-  pub tail-not : {r : ℕ} {x y : List ℕ} → code P p ≡ 48 → Puts (41 ∷ []) at x y r → PutsTail P p at x y r
-  tail-not h w = let e = eq-eqb (code P p) 48 h in record { text = reworded (rw (tailOf, e)) w; bounded = rw (TailBounded, e) tt }
+  pub tail-not : {r : ℕ} {x y : List ℕ} → code P p ≡ nayNode → Puts (41 ∷ []) at x y r → PutsTail P p at x y r
+  tail-not h w = let e = eq-eqb (code P p) nayNode h in record { text = reworded (rw (tailOf, e)) w; bounded = rw (TailBounded, e) tt }
 
-  pub tail-pick : {i j k l m r : ℕ} {u v w x y z : List ℕ} → (code P p ≡ 48 → ⊥) → code P p < 64 → Puts (63 ∷ []) at u v i → PutsTree (int (value P p)) i v w j
+  pub tail-pick : {i j k l m r : ℕ} {u v w x y z : List ℕ} → (code P p ≡ nayNode → ⊥) → code P p < valueOp → Puts (63 ∷ []) at u v i → PutsTree (int (value P p)) i v w j
       → Puts (58 ∷ []) j w x k → m ≡ field P p 0 → PutsTree (int m) k x y l → Puts (41 ∷ []) l y z r → PutsTail P p at u z r
   unfolding bracketed
   tail-pick d h a b c e f g =
-      let n = ne-eqb (code P p) 48 d in
-      let t = lt-ltb (code P p) 64 h in
+      let n = ne-eqb (code P p) nayNode d in
+      let t = lt-ltb (code P p) valueOp h in
       record {
         text = reworded (rw (tailOf, n, t)) (joined (joined (joined a (b .text)) (joined c (reworded (ap decimal (sym e)) (f .text)))) g);
         bounded = rw (TailBounded, n, t) (b .bounded, rw (← e) (f .bounded));
       }
 
-  pub tail-value : {r : ℕ} {x y : List ℕ} → 63 < code P p → code P p < 80 → PutsValue (code P p % 16) (value P p) at x y r → PutsTail P p at x y r
+  pub tail-value : {r : ℕ} {x y : List ℕ} → valueOp ≤ code P p → code P p < pairOp → PutsValue (code P p - valueOp) (value P p) at x y r → PutsTail P p at x y r
   tail-value h l w =
-      let n = ne-eqb (code P p) 48 (omega arith) in
-      let t = le-ltb (code P p) 64 h in
-      let f = lt-ltb (code P p) 80 l in
+      let n = ne-eqb (code P p) nayNode (omega arith) in
+      let t = le-ltb (code P p) valueOp h in
+      let f = lt-ltb (code P p) pairOp l in
       record { text = reworded (rw (tailOf, n, t, f)) (w .text); bounded = rw (TailBounded, n, t, f) (w .bounded) }
 
-  pub tail-last : {r : ℕ} {x y : List ℕ} → 79 < code P p → Puts (41 ∷ []) at x y r → PutsTail P p at x y r
+  pub tail-last : {r : ℕ} {x y : List ℕ} → pairOp ≤ code P p → Puts (41 ∷ []) at x y r → PutsTail P p at x y r
   tail-last h w =
-      let n = ne-eqb (code P p) 48 (omega arith) in
-      let t = le-ltb (code P p) 64 (omega arith) in
-      let f = le-ltb (code P p) 80 h in
+      let n = ne-eqb (code P p) nayNode (omega arith) in
+      let t = le-ltb (code P p) valueOp (omega arith) in
+      let f = le-ltb (code P p) pairOp h in
       record { text = reworded (rw (tailOf, n, t, f)) w; bounded = rw (TailBounded, n, t, f) tt }
 
   module _ {i : ℕ} {u v : List ℕ} (a : Puts (40 ∷ []) at u v i) where
-    pub head-not : {r : ℕ} {x : List ℕ} → code P p ≡ 48 → Puts (33 ∷ []) i v x r → PutsHead P p at u x r
-    head-not h w = record { text = reworded (rw (headOf, eq-eqb (code P p) 48 h)) (joined a w); bounded = rw (HeadBounded, lt-ltb (code P p) 80 (omega arith)) tt }
+    pub head-not : {r : ℕ} {x : List ℕ} → code P p ≡ nayNode → Puts (33 ∷ []) i v x r → PutsHead P p at u x r
+    head-not h w = record { text = reworded (rw (headOf, eq-eqb (code P p) nayNode h)) (joined a w); bounded = rw (HeadBounded, lt-ltb (code P p) pairOp (omega arith)) tt }
 
-    pub head-first : (code P p ≡ 48 → ⊥) → code P p < 80 → PutsHead P p at u v i
+    pub head-first : (code P p ≡ nayNode → ⊥) → code P p < pairOp → PutsHead P p at u v i
     head-first d h =
-        let t = lt-ltb (code P p) 80 h in
-        record { text = reworded (rw (headOf, ne-eqb (code P p) 48 d, t)) a; bounded = rw (HeadBounded, t) tt }
+        let t = lt-ltb (code P p) pairOp h in
+        record { text = reworded (rw (headOf, ne-eqb (code P p) nayNode d, t)) a; bounded = rw (HeadBounded, t) tt }
 
-    module _ {q j : ℕ} {w : List ℕ} (h : 79 < code P p) (e : q ≡ field P p 0) (b : PutsTree (treeOf P q) i v w j) where
+    module _ {q j : ℕ} {w : List ℕ} (h : pairOp ≤ code P p) (e : q ≡ field P p 0) (b : PutsTree (treeOf P q) i v w j) where
       lead-as : {l : List ℕ} → leadOf P p ≡ l → headOf P p ≡ 40 ∷ l
-      lead-as f = rw (headOf, ne-eqb (code P p) 48 (omega arith), le-ltb (code P p) 80 h, f)
+      lead-as f = rw (headOf, ne-eqb (code P p) nayNode (omega arith), le-ltb (code P p) pairOp h, f)
 
       first : PutsTree (treeOf P (field P p 0)) i v w j
       first = placed P e b
 
-      pub head-sign : {r : ℕ} {x : List ℕ} → code P p < 96 → Puts (signBy (opOf (code P p % 16))) j w x r → PutsHead P p at u x r
+      pub head-sign : {r : ℕ} {x : List ℕ} → code P p < choiceNode → Puts (signBy (opOf (code P p - pairOp))) j w x r → PutsHead P p at u x r
       head-sign l c =
-          let t = lt-ltb (code P p) 96 l in
-          record { text = reworded (lead-as (rw (leadOf, t))) (joined (joined a (first .text)) c); bounded = rw (HeadBounded, le-ltb (code P p) 80 h, t) (first .bounded) }
+          let t = lt-ltb (code P p) choiceNode l in
+          record { text = reworded (lead-as (rw (leadOf, t))) (joined (joined a (first .text)) c); bounded = rw (HeadBounded, le-ltb (code P p) pairOp h, t) (first .bounded) }
 
-      module _ {k : ℕ} {x : List ℕ} (l : 95 < code P p) (c : Puts (63 ∷ []) j w x k) where
-        pub head-value : {m r : ℕ} {y z : List ℕ} → code P p < 112 → PutsTree (int (value P p)) k x y m → Puts (58 ∷ []) m y z r → PutsHead P p at u z r
+      module _ {k : ℕ} {x : List ℕ} (l : choiceNode ≤ code P p) (c : Puts (63 ∷ []) j w x k) where
+        pub head-value : {m r : ℕ} {y z : List ℕ} → code P p < ternaryNode → PutsTree (int (value P p)) k x y m → Puts (58 ∷ []) m y z r → PutsHead P p at u z r
         unfolding bracketed
         head-value g d f =
-            let s = le-ltb (code P p) 96 l in
-            let t = lt-ltb (code P p) 112 g in
+            let s = le-ltb (code P p) choiceNode l in
+            let t = lt-ltb (code P p) ternaryNode g in
             record {
               text = reworded (lead-as (rw (leadOf, s, t))) (joined (joined (joined a (first .text)) (joined c (d .text))) f);
-              bounded = rw (HeadBounded, le-ltb (code P p) 80 h, s, t) (first .bounded, d .bounded);
+              bounded = rw (HeadBounded, le-ltb (code P p) pairOp h, s, t) (first .bounded, d .bounded);
             }
 
-        pub head-node : {m n r : ℕ} {y z : List ℕ} → 111 < code P p → n ≡ field P p 1 → PutsTree (treeOf P n) k x y m → Puts (58 ∷ []) m y z r
+        pub head-node : {m n r : ℕ} {y z : List ℕ} → ternaryNode ≤ code P p → n ≡ field P p 1 → PutsTree (treeOf P n) k x y m → Puts (58 ∷ []) m y z r
             → PutsHead P p at u z r
         head-node g o d f =
-            let s = le-ltb (code P p) 96 l in
-            let t = le-ltb (code P p) 112 g in
+            let s = le-ltb (code P p) choiceNode l in
+            let t = le-ltb (code P p) ternaryNode g in
             let second = placed P o d in
             record {
               text = reworded (lead-as (rw (leadOf, s, t))) (joined (joined (joined a (first .text)) (joined c (second .text))) f);
-              bounded = rw (HeadBounded, le-ltb (code P p) 80 h, s, t) (first .bounded, second .bounded);
+              bounded = rw (HeadBounded, le-ltb (code P p) pairOp h, s, t) (first .bounded, second .bounded);
             }

@@ -1,5 +1,5 @@
 -- What the functions behind the public one promise.
-use Prim.Native.Nat.{ℕ, _+_, _<_, _≤_, _%_, _^_}
+use Prim.Native.Nat.{ℕ, _+_, _-_, _<_, _≤_, _^_}
 use Prim.Native.Char.{code as char}
 use mathlib.Core.Path.{_≡_}
 use mathlib.Core.Bool.{true, false}
@@ -10,7 +10,7 @@ use lib.Seq.{sets}
 use lib.Dec.{leb, ltb, eqb}
 use Rattle.rules.specs.Tree.{Tree, Op, int}
 use Rattle.rules.specs.Operator.{opOf}
-use Rattle.rules.specs.Pool.{Pool, code, field, value, treeOf}
+use Rattle.rules.specs.Pool.{Pool, code, field, value, treeOf, nayNode, valueOp, pairOp, choiceNode, ternaryNode}
 use Rattle.rules_text.specs.Bracketed.{decimal, signOf, bracketed}
 use Rattle.rules_text.specs.Bounded.{Bounded}
 
@@ -52,45 +52,45 @@ PutsValue i v = PutsWith (v < 2 ^ 64) (valued i v)
 -- what stands before the node before in the text of the node at p, after its bracket, if that node is its last operand
 abbrev pub leadOf : Pool → ℕ → List ℕ
 leadOf P p =
-    elim (ltb (code P p) 96) [
-      | true ↦ bracketed (treeOf P (field P p 0)) ++ signBy (opOf (code P p % 16))
-      | false ↦ bracketed (treeOf P (field P p 0)) ++ char "?" ∷ elim (ltb (code P p) 112) [ true ↦ decimal (value P p) | false ↦ bracketed (treeOf P (field P p 1)) ] ++ char ":" ∷ []
+    elim (ltb (code P p) choiceNode) [
+      | true ↦ bracketed (treeOf P (field P p 0)) ++ signBy (opOf (code P p - pairOp))
+      | false ↦ bracketed (treeOf P (field P p 0)) ++ char "?" ∷ elim (ltb (code P p) ternaryNode) [ true ↦ decimal (value P p) | false ↦ bracketed (treeOf P (field P p 1)) ] ++ char ":" ∷ []
     ]
 
 -- with its bracket, and whichever operand it is
 abbrev pub headOf : Pool → ℕ → List ℕ
 headOf P p =
-    char "(" ∷ elim (eqb (code P p) 48) [ true ↦ char "!" ∷ [] | false ↦ elim (ltb (code P p) 80) [ true ↦ [] | false ↦ leadOf P p ] ]
+    char "(" ∷ elim (eqb (code P p) nayNode) [ true ↦ char "!" ∷ [] | false ↦ elim (ltb (code P p) pairOp) [ true ↦ [] | false ↦ leadOf P p ] ]
 
 -- what stands after it
 abbrev pub tailOf : Pool → ℕ → List ℕ
 tailOf P p =
-    elim (eqb (code P p) 48) [
+    elim (eqb (code P p) nayNode) [
       | true ↦ char ")" ∷ []
-      | false ↦ elim (ltb (code P p) 64) [
+      | false ↦ elim (ltb (code P p) valueOp) [
         | true ↦ char "?" ∷ decimal (value P p) ++ char ":" ∷ decimal (field P p 0) ++ char ")" ∷ []
-        | false ↦ elim (ltb (code P p) 80) [ true ↦ valued (code P p % 16) (value P p) | false ↦ char ")" ∷ [] ]
+        | false ↦ elim (ltb (code P p) pairOp) [ true ↦ valued (code P p - valueOp) (value P p) | false ↦ char ")" ∷ [] ]
       ]
     ]
 
 -- the integers that stand before it, and after it, are below 2^64
 abbrev pub HeadBounded : Pool → ℕ → Type 0
 HeadBounded P p =
-    elim (ltb (code P p) 80) [
+    elim (ltb (code P p) pairOp) [
       | true ↦ Unit {0}
-      | false ↦ elim (ltb (code P p) 96) [
+      | false ↦ elim (ltb (code P p) choiceNode) [
         | true ↦ Bounded (treeOf P (field P p 0))
-        | false ↦ Bounded (treeOf P (field P p 0)) × Bounded (elim (ltb (code P p) 112) [ true ↦ int (value P p) | false ↦ treeOf P (field P p 1) ])
+        | false ↦ Bounded (treeOf P (field P p 0)) × Bounded (elim (ltb (code P p) ternaryNode) [ true ↦ int (value P p) | false ↦ treeOf P (field P p 1) ])
       ]
     ]
 
 abbrev pub TailBounded : Pool → ℕ → Type 0
 TailBounded P p =
-    elim (eqb (code P p) 48) [
+    elim (eqb (code P p) nayNode) [
       | true ↦ Unit {0}
-      | false ↦ elim (ltb (code P p) 64) [
+      | false ↦ elim (ltb (code P p) valueOp) [
         | true ↦ (value P p < 2 ^ 64) × (field P p 0 < 2 ^ 64)
-        | false ↦ elim (ltb (code P p) 80) [ true ↦ value P p < 2 ^ 64 | false ↦ Unit {0} ]
+        | false ↦ elim (ltb (code P p) pairOp) [ true ↦ value P p < 2 ^ 64 | false ↦ Unit {0} ]
       ]
     ]
 

@@ -12,7 +12,7 @@ ghost use lib.ListN.{length, getD};
 ghost use lib.Seq.{paste};
 ghost use Rattle.rules.specs.Operator.{opOf, Named};
 ghost use Rattle.rules.specs.Tree.{bin, rem, var, int};
-ghost use Rattle.rules.specs.Pool.{pool, treeOf};
+ghost use Rattle.rules.specs.Pool.{pool, treeOf, nayNode};
 ghost use Rattle.rules.specs.Promise.{Sound};
 ghost use Rattle.rules_text.specs.Bracketed.{bracketed};
 ghost use Rattle.rules_text.specs.Writing.{writingOf, leftBy, BoundedBy};
@@ -138,7 +138,7 @@ fn put_leaf<'a>(
     at: usize,
 ) -> usize
     requires sound { ⌜ Sound (pool (now codes) (now places) (now values)) p ⌝ }
-    requires leaf { ⌜ getD (now codes) p 0 < 48 ⌝ }
+    requires leaf { ⌜ getD (now codes) p 0 < nayNode ⌝ }
     ensures { λ r. ⌜ PutsTree (treeOf (pool (now (codes .entry)) (now (places .entry)) (now (values .entry))) p) at (now (out .entry)) (now (out .exit)) r ⌝ }
 {
     let code = codes[p];
@@ -152,10 +152,10 @@ fn put_leaf<'a>(
     let left = put_byte(out, at, b'(');
     if code < node::REST_OP {
         let sign = put_byte(out, left, b'n');
-        return put_value(out, sign, code % 16, v);
+        return put_value(out, sign, code - node::N_OP, v);
     }
     let sign = put_rest(out, left, field(places, p, 0) as u64);
-    put_value(out, sign, code % 16, v)
+    put_value(out, sign, code - node::REST_OP, v)
 }
 
 // Puts what stands after the node before, in the text of the node at a place that has operands.
@@ -168,7 +168,7 @@ fn put_tail<'a>(
     at: usize,
 ) -> usize
     requires sound { ⌜ Sound (pool (now codes) (now places) (now values)) p ⌝ }
-    requires above { ⌜ 47 < getD (now codes) p 0 ⌝ }
+    requires above { ⌜ nayNode ≤ getD (now codes) p 0 ⌝ }
     ensures { λ r. ⌜ PutsTail (pool (now (codes .entry)) (now (places .entry)) (now (values .entry))) p at (now (out .entry)) (now (out .exit)) r ⌝ }
 {
     let code = codes[p];
@@ -183,7 +183,7 @@ fn put_tail<'a>(
         return put_byte(out, close, b')');
     }
     if code < node::OP {
-        return put_value(out, at, code % 16, values[p]);
+        return put_value(out, at, code - node::VALUE_OP, values[p]);
     }
     put_byte(out, at, b')')
 }
@@ -198,7 +198,7 @@ fn put_head<'a>(
     at: usize,
 ) -> usize
     requires sound { ⌜ Sound (pool (now codes) (now places) (now values)) p ⌝ }
-    requires above { ⌜ 47 < getD (now codes) p 0 ⌝ }
+    requires above { ⌜ nayNode ≤ getD (now codes) p 0 ⌝ }
     requires room { ⌜ at ≤ 513 ⌝ }
     ensures { λ r. ⌜ PutsHead (pool (now (codes .entry)) (now (places .entry)) (now (values .entry))) p at (now (out .entry)) (now (out .exit)) r ⌝ }
 {
@@ -212,7 +212,7 @@ fn put_head<'a>(
     }
     let sign = put_node(codes, places, values, place(places, p, 0), out, first);
     if code < node::CHOICE {
-        return put_sign(out, sign, code % 16);
+        return put_sign(out, sign, code - node::OP);
     }
     let yes = put_byte(out, sign, b'?');
     if code < node::TERNARY {

@@ -12,22 +12,10 @@ use lib.ListN.{length, getD, set, replicate, length-set, length-replicate, getD-
 use lib.Seq.{getD-set-same, getD-set-other}
 use lib.Dec.{leb, ltb, eqb}
 use borrow.Author.Tests.{lt-ltb, le-ltb, le-leb, lt-leb, leb-true, leb-false, ltb-true, eqb-true, eqb-false, eq-eqb, ne-eqb, not-false}
-use Rattle.rules.specs.Pool.{Pool, code, field, rows, known, fields, operandsTo, operands, allBelow, member, distinct, used, shaped, isTree}
+use Rattle.rules.specs.Pool.{Pool, code, field, known, fields, operandsTo, operands, allBelow, member, distinct, used, shaped, isTree, nayNode, pairOp, ternaryNode}
 use Rattle.rules_tree.specs.Private.{Unmarked, Marked, Took, Placed, Passes}
 use Rattle.rules.proofs.Operators.{never}
 use Rattle.rules.proofs.Trees.{both-left, both-right, member-head, member-tail}
-
--- past the eighth group no code is listed
-pub past-groups : (g : ℕ) → (g ≡ 0 → ⊥) → (g ≡ 1 → ⊥) → (g ≡ 2 → ⊥) → (g ≡ 3 → ⊥) → (g ≡ 4 → ⊥) → (g ≡ 5 → ⊥) → (g ≡ 6 → ⊥) → (g ≡ 7 → ⊥) → getD rows g 0 ≡ 0
-past-groups zero h0 h1 h2 h3 h4 h5 h6 h7 = absurd (h0 refl)
-past-groups (suc zero) h0 h1 h2 h3 h4 h5 h6 h7 = absurd (h1 refl)
-past-groups (suc (suc zero)) h0 h1 h2 h3 h4 h5 h6 h7 = absurd (h2 refl)
-past-groups (suc (suc (suc zero))) h0 h1 h2 h3 h4 h5 h6 h7 = absurd (h3 refl)
-past-groups (suc (suc (suc (suc zero)))) h0 h1 h2 h3 h4 h5 h6 h7 = absurd (h4 refl)
-past-groups (suc (suc (suc (suc (suc zero))))) h0 h1 h2 h3 h4 h5 h6 h7 = absurd (h5 refl)
-past-groups (suc (suc (suc (suc (suc (suc zero)))))) h0 h1 h2 h3 h4 h5 h6 h7 = absurd (h6 refl)
-past-groups (suc (suc (suc (suc (suc (suc (suc zero))))))) h0 h1 h2 h3 h4 h5 h6 h7 = absurd (h7 refl)
-past-groups (suc (suc (suc (suc (suc (suc (suc (suc g)))))))) h0 h1 h2 h3 h4 h5 h6 h7 = refl
 
 -- the answers of the test of one operand
 module _ {q x p : ℕ} (m : List ℕ) (e : q ≡ x) where
@@ -157,19 +145,19 @@ none-below P zero = refl
 none-below P (suc a) = rw (le-ltb (field P 0 a) 0 (omega arith))
 
 module _ (P : Pool) (p : ℕ) where
-  has-operands : 47 < code P p → operands P p ≡ operandsTo P p (fields (code P p))
+  has-operands : nayNode ≤ code P p → operands P p ≡ operandsTo P p (fields (code P p))
   unfolding operands
-  has-operands h = rw (operands, le-ltb (code P p) 48 h)
+  has-operands h = rw (operands, le-ltb (code P p) nayNode h)
 
-  pub some-fields : 79 < code P p → 0 < fields (code P p)
-  some-fields h = rw (fields, le-ltb (code P p) 80 h) (go (ltb (code P p) 112))
+  pub some-fields : pairOp ≤ code P p → 0 < fields (code P p)
+  some-fields h = rw (fields, le-ltb (code P p) pairOp h) (go (ltb (code P p) ternaryNode))
     where
       go : (b : Bool) → 0 < elim b [ true ↦ 1 | false ↦ 2 ]
       go true = omega arith
       go false = omega arith
 
-  both-fields : 111 < code P p → 2 ≡ fields (code P p)
-  both-fields h = rw (fields, le-ltb (code P p) 80 (omega arith), le-ltb (code P p) 112 h)
+  both-fields : ternaryNode ≤ code P p → 2 ≡ fields (code P p)
+  both-fields h = rw (fields, le-ltb (code P p) pairOp (omega arith), le-ltb (code P p) ternaryNode h)
 
 module _ (P : Pool) (p : ℕ) {l : List ℕ} where
   pub before-taken : 0 < p → p < length l → shaped P p ≡ true → Marked l (used P p) → Taken P p 0 l (set l (p - 1) 1)
@@ -197,47 +185,47 @@ module _ (P : Pool) (p : ℕ) {l : List ℕ} where
       }
 
   -- the answers of the test of one node
-  pub leaf : known (code P p) ≡ true → code P p < 48 → Marked l (used P p) → Placed P p l l true
+  pub leaf : code P p < nayNode → Marked l (used P p) → Placed P p l l true
   unfolding operands allBelow
-  leaf i h k = record {
-    answer = rw (i, operands, lt-ltb (code P p) 48 h, k .apart);
-    marks = λ e. rw (operands, lt-ltb (code P p) 48 h) k;
+  leaf h k = record {
+    answer = rw (le-leb (code P p) ternaryNode (omega arith), operands, lt-ltb (code P p) nayNode h, k .apart);
+    marks = λ e. rw (operands, lt-ltb (code P p) nayNode h) k;
     long = λ e. refl;
   }
 
   no : {n : List ℕ} → (known (code P p) && (allBelow p (operands P p) && distinct (operands P p ++ used P p))) ≡ false → Placed P p l n false
   no e = record { answer = sym e; marks = λ e. never e; long = λ e. never e }
 
-  pub first : p ≡ 0 → 47 < code P p → Placed P p l l false
+  pub first : p ≡ 0 → nayNode ≤ code P p → Placed P p l l false
   first e h = no (rw (has-operands P p h, e, none-below P (fields (code P 0))) (and-false (known (code P 0))))
 
-  pub unknown : known (code P p) ≡ false → Placed P p l l false
-  unknown h = no (rw h)
+  pub unknown : {n : List ℕ} → ternaryNode < code P p → Placed P p l n false
+  unknown h = no (rw (lt-leb (code P p) ternaryNode h))
 
-  pub refused : (j : ℕ) {m n : List ℕ} {r : Bool} → 47 < code P p → j < fields (code P p) → Taken P p j l m → Took (field P p j) p m n r
+  pub refused : (j : ℕ) {m n : List ℕ} {r : Bool} → nayNode ≤ code P p → j < fields (code P p) → Taken P p j l m → Took (field P p j) p m n r
       → r ≡ false → Placed P p l n false
   refused j h i k t e =
       no (rw (has-operands P p h, operand-fails P p (fields (code P p)) j i (untaken (k .marked) (omega (arith, k .room, k .long)) t e)) (and-false (known (code P p))))
 
-  placed : (j : ℕ) {m : List ℕ} → known (code P p) ≡ true → 47 < code P p → j ≡ fields (code P p) → Taken P p j l m → Placed P p l m true
+  placed : (j : ℕ) {m : List ℕ} → code P p ≤ ternaryNode → nayNode ≤ code P p → j ≡ fields (code P p) → Taken P p j l m → Placed P p l m true
   placed j b h i k =
       let k' : Taken P p (fields (code P p)) _ _ = rw i at k in
       record {
-        answer = rw (b, has-operands P p h, k' .lower, k' .marked .apart);
+        answer = rw (le-leb (code P p) ternaryNode b, has-operands P p h, k' .lower, k' .marked .apart);
         marks = λ e. rw (has-operands P p h) (k' .marked);
         long = λ e. k .long;
       }
 
-  pub one-operand : {m : List ℕ} → known (code P p) ≡ true → 47 < code P p → code P p < 80 → Taken P p 0 l m → Placed P p l m true
-  one-operand b h i k = placed 0 b h (rw (fields, lt-ltb _ _ i)) k
+  pub one-operand : {m : List ℕ} → nayNode ≤ code P p → code P p < pairOp → Taken P p 0 l m → Placed P p l m true
+  one-operand h i k = placed 0 (omega arith) h (rw (fields, lt-ltb _ _ i)) k
 
-  pub two-operands : {m : List ℕ} → known (code P p) ≡ true → 79 < code P p → code P p < 112 → Taken P p 1 l m → Placed P p l m true
-  two-operands b h i k = placed 1 b (omega arith) (rw (fields, le-ltb _ _ h, lt-ltb _ _ i)) k
+  pub two-operands : {m : List ℕ} → pairOp ≤ code P p → code P p < ternaryNode → Taken P p 1 l m → Placed P p l m true
+  two-operands h i k = placed 1 (omega arith) (omega arith) (rw (fields, le-ltb _ _ h, lt-ltb _ _ i)) k
 
   -- a third operand is the last, so it decides
-  pub third-decides : (r : Bool) {m n : List ℕ} → known (code P p) ≡ true → 111 < code P p → Taken P p 1 l m → Took (field P p 1) p m n r → Placed P p l n r
-  third-decides true b h k t = placed 2 b (omega arith) (both-fields P p h) (one-more 1 k t refl)
-  third-decides false b h k t = refused 1 (omega arith) (rw (← both-fields P p h) (omega arith)) k t refl
+  pub third-decides : (r : Bool) {m n : List ℕ} → code P p ≡ ternaryNode → Taken P p 1 l m → Took (field P p 1) p m n r → Placed P p l n r
+  third-decides true h k t = placed 2 (omega arith) (omega arith) (both-fields P p (omega arith)) (one-more 1 k t refl)
+  third-decides false h k t = refused 1 (omega arith) (rw (← both-fields P p (omega arith)) (omega arith)) k t refl
 
 distinct-tail : (ys zs : List ℕ) → distinct zs ≡ false → distinct (ys ++ zs) ≡ false
 unfolding distinct

@@ -1,32 +1,32 @@
 -- A run of nodes: what its walk down knows at each step, that it ends above place 0, and what a sound place knows of its run.
-use Prim.Native.Nat.{ℕ, suc, _+_, _-_, _<_, _≤_, _%_, _/_}
+use Prim.Native.Nat.{ℕ, suc, _+_, _-_, _<_, _≤_}
 use mathlib.Core.Path.{_≡_, refl, sym, ap, _∙_}
 use mathlib.Core.Bool.{Bool, true, false, _&&_}
 use mathlib.Core.List.{List}
 use mathlib.Core.Logic.{⊎-elim}
 use native.Mathlib.Omega.{arith}
 use native.Mathlib.Nat.{eq-or-lt-of-le}
-use lib.ListN.{getD, List·getD-eq-default}
+use lib.ListN.{getD}
 use lib.Dec.{leb, ltb}
 use borrow.Author.Tests.{leb-true, ltb-true, le-leb, lt-ltb, le-ltb, ltb-false}
-use Rattle.rules.specs.Pool.{Pool, code, rows, known}
+use Rattle.rules.specs.Pool.{Pool, code, nayNode, ternaryNode}
 use Rattle.rules.specs.Promise.{Sound}
 use Rattle.rules.proofs.Operators.{never}
 use Rattle.rules.proofs.Trees.{both-left, both-right, known-in, before-in}
 use Rattle.rules_tree.specs.Promise.{above, Run, Stands}
 
-pub low : (c e : ℕ) → above c e ≡ true → 48 ≤ c
-low c e h = leb-true 48 c (both-left (leb 48 c) (ltb c e) h)
+pub low : (c e : ℕ) → above c e ≡ true → nayNode ≤ c
+low c e h = leb-true nayNode c (both-left (leb nayNode c) (ltb c e) h)
 
 pub high : (c e : ℕ) → above c e ≡ true → c < e
-high c e h = ltb-true c e (both-right (leb 48 c) (ltb c e) h)
+high c e h = ltb-true c e (both-right (leb nayNode c) (ltb c e) h)
 
 pub no-run : (codes : List ℕ) (p e : ℕ) → Run codes p e p
 no-run codes p e = record { below = omega arith; all = λ i h l. absurd (omega arith) }
 
 module _ {codes : List ℕ} {p e q : ℕ} (r : Run codes p e q) where
   -- place 0 holds no such node
-  pub some-below : getD codes 0 0 < 48 → above (getD codes q 0) e ≡ true → 0 < q
+  pub some-below : getD codes 0 0 < nayNode → above (getD codes q 0) e ≡ true → 0 < q
   some-below h a = ⊎-elim (λ d. let l = low (getD codes 0 0) e (rw (← d) at a) in absurd (omega arith)) (λ l. l) (eq-or-lt-of-le (omega arith))
 
   pub longer : (i : ℕ) → suc i ≡ q → above (getD codes q 0) e ≡ true → Run codes p e i
@@ -48,38 +48,26 @@ one-base {codes} {p} {e} {q} {r} s t = go (ltb q r) (ltb r q) refl refl
     go false true f g = never (sym (s .stops) ∙ t .run .all q (ltb-true r q g) (s .run .below))
     go false false f g = let h = ltb-false q r f in let k = ltb-false r q g in omega arith
 
--- every code is below 128
-most : (c : ℕ) → known c ≡ true → c < 128
-most c h = go (ltb c 128) refl
-  where
-    go : (b : Bool) → ltb c 128 ≡ b → c < 128
-    go true e = ltb-true c 128 e
-    go false e =
-        let l = ltb-false c 128 e in
-        let d : getD rows (c / 16) 0 ≡ 0 = List·getD-eq-default rows 0 {n = c / 16} (omega arith) in
-        let k : c % 16 < getD rows (c / 16) 0 = ltb-true (c % 16) (getD rows (c / 16) 0) h in
-        absurd (omega (arith, rw d at k))
-
 -- at a sound place
 module _ {P : Pool} {p : ℕ} (s : Sound P p) where
   pub down-to : {q : ℕ} → q ≤ p → Sound P q
   down-to h = record { count = s .count; inside = omega (arith, s .inside); few = s .few; shape = s .shape }
 
   -- place 0 holds a leaf
-  pub leaf-first : code P 0 < 48
-  leaf-first = go (ltb (code P 0) 48) refl
+  pub leaf-first : code P 0 < nayNode
+  leaf-first = go (ltb (code P 0) nayNode) refl
     where
-      go : (b : Bool) → ltb (code P 0) 48 ≡ b → code P 0 < 48
-      go true e = ltb-true (code P 0) 48 e
-      go false e = let h = before-in (down-to (omega arith)) (ltb-false (code P 0) 48 e) in absurd (omega arith)
+      go : (b : Bool) → ltb (code P 0) nayNode ≡ b → code P 0 < nayNode
+      go true e = ltb-true (code P 0) nayNode e
+      go false e = let h = before-in (down-to (omega arith)) (ltb-false (code P 0) nayNode e) in absurd (omega arith)
 
   -- so does what a run of all nodes with operands stands on
-  pub leaf-last : {q : ℕ} → Stands (P .codes) p 128 q → code P q < 48
-  leaf-last {q} t = go (ltb (code P q) 48) refl
+  pub leaf-last : {q : ℕ} → Stands (P .codes) p (ternaryNode + 1) q → code P q < nayNode
+  leaf-last {q} t = go (ltb (code P q) nayNode) refl
     where
-      go : (b : Bool) → ltb (code P q) 48 ≡ b → code P q < 48
-      go true e = ltb-true (code P q) 48 e
+      go : (b : Bool) → ltb (code P q) nayNode ≡ b → code P q < nayNode
+      go true e = ltb-true (code P q) nayNode e
       go false e =
-          let l = ltb-false (code P q) 48 e in
-          let h = most (code P q) (known-in (down-to (t .run .below))) in
-          never (sym (t .stops) ∙ rw (above, le-leb 48 (code P q) l, lt-ltb (code P q) 128 h))
+          let l = ltb-false (code P q) nayNode e in
+          let h = known-in (down-to (t .run .below)) in
+          never (sym (t .stops) ∙ rw (above, le-leb nayNode (code P q) l, lt-ltb (code P q) (ternaryNode + 1) (omega arith)))

@@ -7,39 +7,15 @@ ghost use mathlib.Core.Bool.{true};
 ghost use mathlib.Core.List.{[]};
 ghost use Prim.Native.Nat.{_+_, _<_, _≤_, _*_};
 ghost use lib.ListN.{length, getD};
-ghost use Rattle.rules.specs.Pool.{pool, rows, known, used, shaped, isTree};
+ghost use Rattle.rules.specs.Pool.{pool, nayNode, used, shaped, isTree};
 ghost use Rattle.rules_tree.specs.Promise.{above, Stands};
 ghost use Rattle.rules_tree.specs.Private.{Unmarked, Marked, Took, Placed, Passes};
 
 // Above all codes.
-pub const CODES: u8 = 128;
+pub const CODES: u8 = node::TERNARY + 1;
 
 // Most rules have no more nodes, and so many marks are cleared at once.
 const FEW: usize = 64;
-
-// How many codes of a group of 16 are listed.
-fn rows_of(group: u8) -> u8
-    ensures { λ r. ⌜ r ≡ getD rows group 0 ⌝ }
-{
-    match group {
-        0 => 2,
-        1 => node::OPERATORS,
-        2 => node::OPERATORS,
-        3 => 2,
-        4 => node::OPERATORS,
-        5 => node::OPERATORS,
-        6 => 1,
-        7 => 1,
-        _ => 0,
-    }
-}
-
-// Whether a code is listed: its row is one of its group's.
-fn is_known(code: u8) -> bool
-    ensures { λ r. ⌜ r ≡ known code ⌝ }
-{
-    code % 16 < rows_of(code / 16)
-}
 
 // Whether the operand that field j of the node at p names lies below it and is no operand yet; it is marked as one then.
 fn takes<'a>(places: &'a [u16; 1024], marks: &mut [u8], p: usize, j: usize) -> bool
@@ -64,9 +40,6 @@ fn is_node<'a>(codes: &'a [u8; 512], places: &'a [u16; 1024], marks: &mut [u8], 
     ensures { λ r. ⌜ Placed (pool (now (codes .entry)) (now (places .entry)) []) p (now (marks .entry)) (now (marks .exit)) r ⌝ }
 {
     let code = codes[p];
-    if !is_known(code) {
-        return false;
-    }
     if code < node::NOT {
         return true;
     }
@@ -82,6 +55,9 @@ fn is_node<'a>(codes: &'a [u8; 512], places: &'a [u16; 1024], marks: &mut [u8], 
     }
     if code < node::TERNARY {
         return true;
+    }
+    if code != node::TERNARY {
+        return false;
     }
     takes(places, marks, p, 1)
 }
@@ -139,7 +115,7 @@ fn is_above(code: u8, end: u8) -> bool
 // code below an end. So a walk goes up such a run in a loop and takes no stack for it: with the end `node::OP`, of nodes with one operand
 // only; with `CODES`, of all, and the run stands on a leaf.
 pub fn base<'a>(codes: &'a [u8; 512], at: usize, end: u8) -> usize
-    requires { ⌜ (at < 512) × (getD (now codes) 0 0 < 48) ⌝ }
+    requires { ⌜ (at < 512) × (getD (now codes) 0 0 < nayNode) ⌝ }
     ensures { λ r. ⌜ Stands (now (codes .entry)) at end r ⌝ }
 {
     let mut p = at;

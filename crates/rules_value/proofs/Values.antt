@@ -3,7 +3,7 @@ use mathlib.Core.Path.{_≡_, refl, sym, ap, _∙_}
 use mathlib.Core.Bool.{Bool, true, false}
 use mathlib.Core.List.{List}
 use mathlib.Core.Logic.{⊎-elim}
-use Prim.Native.Nat.{ℕ, _+_, _*_, _-_, _<_, _≤_, _%_}
+use Prim.Native.Nat.{ℕ, _+_, _*_, _-_, _<_, _≤_}
 use native.Mathlib.Omega.{arith}
 use native.Mathlib.Nat.{eq-or-lt-of-le}
 use lib.ListN.{getD}
@@ -14,10 +14,11 @@ use Rattle.rules.specs.declared.Value.the-variants.{Is, ZeroModulus}
 use Rattle.rules.specs.Tree.{Tree, rem}
 use Rattle.rules.specs.Value.{truth, binary, evalTree}
 use Rattle.rules.specs.Operator.{opOf, opAt, Named}
-use Rattle.rules.specs.Pool.{Pool, code, field, value, leaf, one, two, treeOf}
+use Rattle.rules.specs.Pool.{Pool, code, field, value, leaf, one, two, treeOf, nOp, restOp, nayNode, valueOp, pairOp, choiceNode, ternaryNode}
 use Rattle.rules.specs.Promise.{Sound}
 use Rattle.rules_operators.specs.Operator.{settled, settledBy, Gives, Applies}
 use Rattle.rules_operators.proofs.Given.{number, fails-as, is-as, negation, first-arm, second-arm, left-alone, both, by-left}
+use Rattle.rules.proofs.Operators.{named}
 use Rattle.rules.proofs.Trees.{tree-leaf, tree-one, tree-two, tree-three, leaf-op, leaf-rest, one-op, two-op}
 use Rattle.rules_tree.specs.Promise.{above, Run}
 use Rattle.rules_tree.proofs.Runs.{down-to}
@@ -41,74 +42,77 @@ module _ (P : Pool) (p n : ℕ) where
   unfolding evalTree
   at-count h e = number (ap val (tree-leaf P p (omega arith)) ∙ rw h) e
 
-  pub at-int : {b : Bool} {r : ℕ} → (code P p ≡ 0 → ⊥) → code P p < 16 → r ≡ value P p → Gives (ev p) b b r
+  pub at-int : {b : Bool} {r : ℕ} → (code P p ≡ 0 → ⊥) → code P p < nOp → r ≡ value P p → Gives (ev p) b b r
   unfolding evalTree
-  at-int d h e = number (ap val (tree-leaf P p (omega arith)) ∙ rw (leaf, lt-ltb (code P p) 16 h, ne-eqb (code P p) 0 d)) e
+  at-int d h e = number (ap val (tree-leaf P p (omega arith)) ∙ rw (leaf, lt-ltb (code P p) nOp h, ne-eqb (code P p) 0 d)) e
 
-  pub at-op : {b c : Bool} {r : ℕ} → 15 < code P p → code P p < 32 → Named (code P p % 16) → Applies (code P p % 16) n (value P p) b c r → Gives (ev p) b c r
+  pub at-op : {b c : Bool} {r : ℕ} → nOp ≤ code P p → code P p < restOp → Applies (code P p - nOp) n (value P p) b c r → Gives (ev p) b c r
   unfolding evalTree
-  at-op d h k g = rw (tree-leaf P p (omega arith), leaf-op (code P p) (field P p 0) (value P p) (k .is) d h) (g .gives (k .op) (k .is))
+  at-op d h g = let k = named (code P p - nOp) (omega arith) in rw (tree-leaf P p (omega arith), leaf-op (code P p) (field P p 0) (value P p) (k .is) d h) (g .gives (k .op) (k .is))
 
-  pub at-rest : {b c d : Bool} {m x r : ℕ} → 31 < code P p → code P p < 48 → Named (code P p % 16) → m ≡ field P p 0 → Applies 8 n m b c x
-      → Applies (code P p % 16) x (value P p) c d r → Gives (ev p) b d r
+  pub at-rest : {b c d : Bool} {m x r : ℕ} → restOp ≤ code P p → code P p < nayNode → m ≡ field P p 0 → Applies 8 n m b c x
+      → Applies (code P p - restOp) x (value P p) c d r → Gives (ev p) b d r
   unfolding evalTree opOf opAt
-  at-rest h l k e g w =
+  at-rest h l e g w =
+      let k = named (code P p - restOp) (omega arith) in
       rw (tree-leaf P p l, leaf-rest (code P p) (field P p 0) (value P p) (k .is) h)
       (by-left (k .op) (binary rem (Is n) (Is (field P p 0))) (value P p) (rw e at (g .gives rem refl)) (w .gives (k .op) (k .is)))
 
   module _ {b c : Bool} {x : ℕ} (a : p - 1 < p) (g : Gives (ev (p - 1)) b c x) where
-    pub at-nay : {r : ℕ} → code P p ≡ 48 → r ≡ truth (eqb x 0) → Gives (ev p) b c r
+    pub at-nay : {r : ℕ} → code P p ≡ nayNode → r ≡ truth (eqb x 0) → Gives (ev p) b c r
     unfolding evalTree
     at-nay h e = rw (tree-one P p (omega arith) (omega arith) a, h) (negation _ g e)
 
-    pub at-other : {r : ℕ} → 48 < code P p → code P p < 64 → x ≡ 0 → r ≡ field P p 0 → Gives (ev p) b c r
+    pub at-other : {r : ℕ} → nayNode < code P p → code P p < valueOp → x ≡ 0 → r ≡ field P p 0 → Gives (ev p) b c r
     unfolding evalTree
-    at-other h l z e = rw (tree-one P p (omega arith) (omega arith) a, one, ne-eqb (code P p) 48 (omega arith), lt-ltb (code P p) 64 l) (second-arm _ _ _ g z (number refl e))
+    at-other h l z e = rw (tree-one P p (omega arith) (omega arith) a, one, ne-eqb (code P p) nayNode (omega arith), lt-ltb (code P p) valueOp l) (second-arm _ _ _ g z (number refl e))
 
-    pub at-value : {r : ℕ} → 48 < code P p → code P p < 64 → (x ≡ 0 → ⊥) → r ≡ value P p → Gives (ev p) b c r
+    pub at-value : {r : ℕ} → nayNode < code P p → code P p < valueOp → (x ≡ 0 → ⊥) → r ≡ value P p → Gives (ev p) b c r
     unfolding evalTree
-    at-value h l z e = rw (tree-one P p (omega arith) (omega arith) a, one, ne-eqb (code P p) 48 (omega arith), lt-ltb (code P p) 64 l) (first-arm _ _ _ g z (number refl e))
+    at-value h l z e = rw (tree-one P p (omega arith) (omega arith) a, one, ne-eqb (code P p) nayNode (omega arith), lt-ltb (code P p) valueOp l) (first-arm _ _ _ g z (number refl e))
 
-    pub at-one : {d : Bool} {r : ℕ} → 63 < code P p → code P p < 80 → Named (code P p % 16) → Applies (code P p % 16) x (value P p) c d r
-        → Gives (ev p) b d r
+    pub at-one : {d : Bool} {r : ℕ} → valueOp ≤ code P p → code P p < pairOp → Applies (code P p - valueOp) x (value P p) c d r → Gives (ev p) b d r
     unfolding evalTree
-    at-one h l k w =
-        rw (tree-one P p (omega arith) l a, one-op (code P p) (field P p 0) (value P p) (treeOf P (p - 1)) (treeOf P (p - 1)) (k .is) h)
+    at-one h l w =
+        let k = named (code P p - valueOp) (omega arith) in
+        rw (tree-one P p (omega arith) l a, one-op (code P p) (field P p 0) (value P p) (treeOf P (p - 1)) (k .is) h)
         (by-left _ _ _ g (w .gives (k .op) (k .is)))
 
   module _ {b c : Bool} {x : ℕ} (a : p - 1 < p) (f : field P p 0 < p) (g : Gives (ev (field P p 0)) b c x) where
-    pub at-no : {d : Bool} {r : ℕ} → 95 < code P p → (111 < code P p → field P p 1 < p) → x ≡ 0 → Gives (ev (p - 1)) c d r → Gives (ev p) b d r
+    pub at-no : {d : Bool} {r : ℕ} → choiceNode ≤ code P p → (ternaryNode ≤ code P p → field P p 1 < p) → x ≡ 0 → Gives (ev (p - 1)) c d r → Gives (ev p) b d r
     unfolding evalTree
-    at-no {d} {r} h s z k = go (ltb (code P p) 112) refl
+    at-no {d} {r} h s z k = go (ltb (code P p) ternaryNode) refl
       where
-        go : (i : Bool) → ltb (code P p) 112 ≡ i → Gives (ev p) b d r
+        go : (i : Bool) → ltb (code P p) ternaryNode ≡ i → Gives (ev p) b d r
         go true e =
-            rw (tree-two P p (omega arith) (ltb-true (code P p) 112 e) a f, two, le-ltb (code P p) 96 h) (second-arm _ _ _ g z k)
+            rw (tree-two P p (omega arith) (ltb-true (code P p) ternaryNode e) a f, two, le-ltb (code P p) choiceNode h) (second-arm _ _ _ g z k)
         go false e =
-            let j : 111 < code P p = ltb-false (code P p) 112 e in
+            let j : ternaryNode ≤ code P p = ltb-false (code P p) ternaryNode e in
             rw (tree-three P p j a f (s j)) (second-arm _ _ _ g z k)
 
-    pub at-chosen : {r : ℕ} → 95 < code P p → code P p < 112 → (x ≡ 0 → ⊥) → r ≡ value P p → Gives (ev p) b c r
+    pub at-chosen : {r : ℕ} → choiceNode ≤ code P p → code P p < ternaryNode → (x ≡ 0 → ⊥) → r ≡ value P p → Gives (ev p) b c r
     unfolding evalTree
-    at-chosen h l z e = rw (tree-two P p (omega arith) l a f, two, le-ltb (code P p) 96 h) (first-arm _ _ _ g z (number refl e))
+    at-chosen h l z e = rw (tree-two P p (omega arith) l a f, two, le-ltb (code P p) choiceNode h) (first-arm _ _ _ g z (number refl e))
 
-    pub at-yes : {d : Bool} {r : ℕ} → 111 < code P p → field P p 1 < p → (x ≡ 0 → ⊥) → Gives (ev (field P p 1)) c d r → Gives (ev p) b d r
+    pub at-yes : {d : Bool} {r : ℕ} → ternaryNode ≤ code P p → field P p 1 < p → (x ≡ 0 → ⊥) → Gives (ev (field P p 1)) c d r → Gives (ev p) b d r
     unfolding evalTree
     at-yes h s z k = rw (tree-three P p h a f s) (first-arm _ _ _ g z k)
 
-    pub at-settled : {d s : Bool} {r : ℕ} → 79 < code P p → code P p < 96 → Named (code P p % 16) → s ≡ settledBy (opOf (code P p % 16)) x → s ≡ true
-        → Applies (code P p % 16) x 0 c d r → Gives (ev p) b d r
+    pub at-settled : {d s : Bool} {r : ℕ} → pairOp ≤ code P p → code P p < choiceNode → s ≡ settledBy (opOf (code P p - pairOp)) x → s ≡ true
+        → Applies (code P p - pairOp) x 0 c d r → Gives (ev p) b d r
     unfolding evalTree
-    at-settled h l k e i w =
-        rw (tree-two P p h (omega arith) a f, two-op (code P p) 0 (value P p) (treeOf P (field P p 0)) (treeOf P (p - 1)) (k .is) l)
-        (left-alone _ _ _ g (settles (code P p % 16) x k e i) (w .gives (k .op) (k .is)))
+    at-settled h l e i w =
+        let k = named (code P p - pairOp) (omega arith) in
+        rw (tree-two P p h (omega arith) a f, two-op (code P p) (value P p) (treeOf P (field P p 0)) (treeOf P (p - 1)) (k .is) l)
+        (left-alone _ _ _ g (settles (code P p - pairOp) x k e i) (w .gives (k .op) (k .is)))
 
-    pub at-both : {d e s : Bool} {y r : ℕ} → 79 < code P p → code P p < 96 → Named (code P p % 16) → s ≡ settledBy (opOf (code P p % 16)) x → s ≡ false
-        → Gives (ev (p - 1)) c d y → Applies (code P p % 16) x y d e r → Gives (ev p) b e r
+    pub at-both : {d e s : Bool} {y r : ℕ} → pairOp ≤ code P p → code P p < choiceNode → s ≡ settledBy (opOf (code P p - pairOp)) x → s ≡ false
+        → Gives (ev (p - 1)) c d y → Applies (code P p - pairOp) x y d e r → Gives (ev p) b e r
     unfolding evalTree
-    at-both h l k e i m w =
-        rw (tree-two P p h (omega arith) a f, two-op (code P p) 0 (value P p) (treeOf P (field P p 0)) (treeOf P (p - 1)) (k .is) l)
-        (both _ _ _ g (settles (code P p % 16) x k e i) m (w .gives (k .op) (k .is)))
+    at-both h l e i m w =
+        let k = named (code P p - pairOp) (omega arith) in
+        rw (tree-two P p h (omega arith) a f, two-op (code P p) (value P p) (treeOf P (field P p 0)) (treeOf P (p - 1)) (k .is) l)
+        (both _ _ _ g (settles (code P p - pairOp) x k e i) m (w .gives (k .op) (k .is)))
 
 -- the value of a number and a flag
 module _ {v : Value} {r : ℕ} where
@@ -136,12 +140,9 @@ pub lower : {P : Pool} {q t : ℕ} → (2 * q + 1 < t) × Sound P q → (2 * q <
 lower (l, s) = (omega arith, s)
 
 -- a run with one more node
-pub topped : {codes : List ℕ} {p q : ℕ} → p - 1 < p → Run codes (p - 1) 80 q → 47 < getD codes p 0 → getD codes p 0 < 80 → Run codes p 80 q
+pub topped : {codes : List ℕ} {p q : ℕ} → p - 1 < p → Run codes (p - 1) pairOp q → nayNode ≤ getD codes p 0 → getD codes p 0 < pairOp → Run codes p pairOp q
 topped {codes} {p} a r h l =
     record {
       below = omega (arith, r .below);
-      all = λ i j k. ⊎-elim (λ (e : i ≡ p). rw (e, le-leb 48 (getD codes p 0) h, lt-ltb (getD codes p 0) 80 l)) (λ m. r .all i j (omega arith)) (eq-or-lt-of-le k);
+      all = λ i j k. ⊎-elim (λ (e : i ≡ p). rw (e, le-leb nayNode (getD codes p 0) h, lt-ltb (getD codes p 0) pairOp l)) (λ m. r .all i j (omega arith)) (eq-or-lt-of-le k);
     }
-
-pub over : {c : ℕ} → 48 ≤ c → (c ≡ 48 → ⊥) → 48 < c
-over h d = omega arith

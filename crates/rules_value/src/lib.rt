@@ -13,7 +13,7 @@ ghost use mathlib.Core.Bool.{true};
 ghost use Prim.Native.Nat.{_<_, _+_, _-_, _*_};
 ghost use lib.ListN.{getD};
 ghost use Rattle.rules.specs.Value.{evalTree};
-ghost use Rattle.rules.specs.Pool.{pool, treeOf};
+ghost use Rattle.rules.specs.Pool.{pool, treeOf, nayNode, pairOp};
 ghost use Rattle.rules.specs.Promise.{Sound};
 ghost use Rattle.rules.specs.Answer.{resolvedOf};
 ghost use Rattle.rules_operators.specs.Operator.{Gives};
@@ -38,7 +38,7 @@ fn leaf<'a>(
     zero: &mut bool,
 ) -> u64
     requires sound { ⌜ Sound (pool (now codes) (now places) (now values)) at ⌝ }
-    requires leaf { ⌜ getD (now codes) at 0 < 48 ⌝ }
+    requires leaf { ⌜ getD (now codes) at 0 < nayNode ⌝ }
     ensures { λ r. ⌜ Gives (evalTree (treeOf (pool (now (codes .entry)) (now (places .entry)) (now (values .entry))) at) n)
         (now (zero .entry)) (now (zero .exit)) r ⌝ }
 {
@@ -51,10 +51,10 @@ fn leaf<'a>(
         return v;
     }
     if code < node::REST_OP {
-        return apply(code % 16, n, v, zero);
+        return apply(code - node::N_OP, n, v, zero);
     }
     let x = apply(node::MODULO, n, small(places, at), zero);
-    apply(code % 16, x, v, zero)
+    apply(code - node::REST_OP, x, v, zero)
 }
 
 // The value of a node with one operand, by its operand's.
@@ -67,7 +67,7 @@ fn one<'a>(
     zero: &mut bool,
 ) -> u64
     requires sound { ⌜ Sound (pool (now codes) (now places) (now values)) at ⌝ }
-    requires one { ⌜ above (getD (now codes) at 0) 80 ≡ true ⌝ }
+    requires one { ⌜ above (getD (now codes) at 0) pairOp ≡ true ⌝ }
     ensures { λ r. ⌜ Lifts (pool (now (codes .entry)) (now (places .entry)) (now (values .entry))) (at - 1) at
         x (now (zero .entry)) (now (zero .exit)) r ⌝ }
 {
@@ -81,7 +81,7 @@ fn one<'a>(
         }
         return values[at];
     }
-    apply(code % 16, x, values[at], zero)
+    apply(code - node::VALUE_OP, x, values[at], zero)
 }
 
 // The value of the last of a run of nodes with one operand, by the value of the node that the run stands on.
@@ -95,7 +95,7 @@ fn up<'a>(
     zero: &mut bool,
 ) -> u64
     requires sound { ⌜ Sound (pool (now codes) (now places) (now values)) at ⌝ }
-    requires run { ⌜ Run (now codes) at 80 base ⌝ }
+    requires run { ⌜ Run (now codes) at pairOp base ⌝ }
     ensures { λ r. ⌜ Lifts (pool (now (codes .entry)) (now (places .entry)) (now (values .entry))) base at
         x (now (zero .entry)) (now (zero .exit)) r ⌝ }
 {
@@ -164,11 +164,11 @@ fn eval<'a>(
         }
         return eval(codes, places, values, place(places, at, 1), n, zero);
     }
-    if settles(code % 16, x) {
-        return apply(code % 16, x, 0, zero);
+    if settles(code - node::OP, x) {
+        return apply(code - node::OP, x, 0, zero);
     }
     let y = eval(codes, places, values, at - 1, n, zero);
-    apply(code % 16, x, y, zero)
+    apply(code - node::OP, x, y, zero)
 }
 
 // The value of the tree at a place at a count, of nodes that passed the test.

@@ -6,7 +6,7 @@ use mathlib.Core.Bool.{Bool, true, false}
 use mathlib.Core.List.{List, [], _∷_}
 use mathlib.Core.Option.{Option}
 use mathlib.Core.Logic.{_⊎_, inl, inr, ⊎-elim}
-use Prim.Native.Nat.{ℕ, zero, suc, _-_, _<_, _%_, _/_}
+use Prim.Native.Nat.{ℕ, zero, suc, _-_, _<_, _≤_, _%_, _/_}
 use native.Mathlib.Omega.{arith}
 use lib.Dec.{ltb, eqb}
 use borrow.Author.Tests.{lt-ltb, le-ltb, ltb-true, ltb-false, eq-eqb, ne-eqb, eqb-true}
@@ -15,10 +15,10 @@ use Rattle.rules.specs.declared.Value.the-variants.{Is, ZeroModulus}
 use Rattle.rules.specs.Tree.{Tree, var, int, nay, bin, cond, Op, cmp, calc, and, or, rem, div}
 use Rattle.rules.specs.Value.{pickV, truthV, binary, negated, chosen, evalTree}
 use Rattle.rules.specs.Operator.{opOf, Named}
-use Rattle.rules.specs.Pool.{Pool, code, field, value, treeOf, leaf, one, two, member}
+use Rattle.rules.specs.Pool.{Pool, code, field, value, treeOf, leaf, one, two, member, nOp, restOp, nayNode, pickNode, valueOp, pairOp, choiceNode, ternaryNode}
 use Rattle.rules.specs.Promise.{Sound}
-use Rattle.rules.proofs.Operators.{never}
-use Rattle.rules.proofs.Trees.{member-head, before-in, first-in, second-in, op-low, op-high, tree-leaf, tree-one, tree-two, tree-three, leaf-op, leaf-rest, one-op, two-op, down}
+use Rattle.rules.proofs.Operators.{never, named}
+use Rattle.rules.proofs.Trees.{member-head, before-in, first-in, second-in, tree-leaf, tree-one, tree-two, tree-three, leaf-op, leaf-rest, one-op, two-op, down}
 use Rattle.rules_operators.specs.Operator.{settled, settledBy}
 use Rattle.rules_operators.proofs.Operators.{settled-any, unsettled}
 use Rattle.rules_zero.specs.Zero.{valueAt, second, reached, without, firstOf, stepOf, zeroAt}
@@ -42,7 +42,7 @@ pub data Reaches (P : Pool) (n : ℕ) : ℕ → ℕ → Type 0 where
 -- whose m is 0
 pub data Divides (P : Pool) (n q : ℕ) : Type 0 where
   own : (op : Op) (s t : Tree) (x : ℕ) → treeOf P q ≡ bin op s t → isDivision op ≡ true → evalTree s n ≡ Is x → evalTree t n ≡ Is 0 → Divides P n q
-  rest : 31 < code P q → code P q < 48 → field P q 0 ≡ 0 → Divides P n q
+  rest : restOp ≤ code P q → code P q < nayNode → field P q 0 ≡ 0 → Divides P n q
 
 no : {A : Type 0} {x : ℕ} → Is x ≡ ZeroModulus → A
 no e = let z : _≡_ {A = ℕ} 0 1 = cc in absurd (omega arith)
@@ -165,50 +165,50 @@ module _ (P : Pool) (n p : ℕ) where
       (λ r m f. ⊎-elim (λ k. clash v (rw k at f)) (λ k. k) (member-two a b r (rw e at m))) z d
 
   -- the operands that evaluation gets to, by the code
-  reached-none : code P p < 48 → reached P n p ≡ []
+  reached-none : code P p < nayNode → reached P n p ≡ []
   unfolding reached
-  reached-none h = rw (reached, lt-ltb (code P p) 48 h)
+  reached-none h = rw (reached, lt-ltb (code P p) nayNode h)
 
-  reached-one : 47 < code P p → code P p < 80 → reached P n p ≡ (p - 1) ∷ []
+  reached-one : nayNode ≤ code P p → code P p < pairOp → reached P n p ≡ (p - 1) ∷ []
   unfolding reached
-  reached-one h l = rw (reached, le-ltb (code P p) 48 h, lt-ltb (code P p) 80 l)
+  reached-one h l = rw (reached, le-ltb (code P p) nayNode h, lt-ltb (code P p) pairOp l)
 
-  reached-by : {v : Value} → 79 < code P p → valueAt P n (field P p 0) ≡ v → reached P n p ≡ field P p 0 ∷ second P p v
+  reached-by : {v : Value} → pairOp ≤ code P p → valueAt P n (field P p 0) ≡ v → reached P n p ≡ field P p 0 ∷ second P p v
   unfolding reached
   reached-by h e =
-      rw (reached, le-ltb (code P p) 48 (omega arith), le-ltb (code P p) 80 h) (ap (λ (v : Value). field P p 0 ∷ second P p v) e)
+      rw (reached, le-ltb (code P p) nayNode (omega arith), le-ltb (code P p) pairOp h) (ap (λ (v : Value). field P p 0 ∷ second P p v) e)
 
-  reached-settled : {x : ℕ} → 79 < code P p → valueAt P n (field P p 0) ≡ Is x → code P p < 96 → settledBy (opOf (code P p % 16)) x ≡ true
+  reached-settled : {x : ℕ} → pairOp ≤ code P p → valueAt P n (field P p 0) ≡ Is x → code P p < choiceNode → settledBy (opOf (code P p - pairOp)) x ≡ true
       → reached P n p ≡ field P p 0 ∷ []
-  reached-settled h e l s = reached-by h e ∙ rw (second, lt-ltb (code P p) 96 l, s)
+  reached-settled h e l s = reached-by h e ∙ rw (second, lt-ltb (code P p) choiceNode l, s)
 
-  reached-both : {x : ℕ} → 79 < code P p → valueAt P n (field P p 0) ≡ Is x → code P p < 96 → settledBy (opOf (code P p % 16)) x ≡ false
+  reached-both : {x : ℕ} → pairOp ≤ code P p → valueAt P n (field P p 0) ≡ Is x → code P p < choiceNode → settledBy (opOf (code P p - pairOp)) x ≡ false
       → reached P n p ≡ field P p 0 ∷ (p - 1) ∷ []
-  reached-both h e l s = reached-by h e ∙ rw (second, lt-ltb (code P p) 96 l, s)
+  reached-both h e l s = reached-by h e ∙ rw (second, lt-ltb (code P p) choiceNode l, s)
 
-  reached-no : {x : ℕ} → 95 < code P p → valueAt P n (field P p 0) ≡ Is x → eqb x 0 ≡ true → reached P n p ≡ field P p 0 ∷ (p - 1) ∷ []
-  reached-no h e z = reached-by (omega arith) e ∙ rw (second, le-ltb (code P p) 96 h, z)
+  reached-no : {x : ℕ} → choiceNode ≤ code P p → valueAt P n (field P p 0) ≡ Is x → eqb x 0 ≡ true → reached P n p ≡ field P p 0 ∷ (p - 1) ∷ []
+  reached-no h e z = reached-by (omega arith) e ∙ rw (second, le-ltb (code P p) choiceNode h, z)
 
-  reached-chosen : {x : ℕ} → 95 < code P p → code P p < 112 → valueAt P n (field P p 0) ≡ Is x → eqb x 0 ≡ false → reached P n p ≡ field P p 0 ∷ []
-  reached-chosen h l e z = reached-by (omega arith) e ∙ rw (second, le-ltb (code P p) 96 h, z, lt-ltb (code P p) 112 l)
+  reached-chosen : {x : ℕ} → choiceNode ≤ code P p → code P p < ternaryNode → valueAt P n (field P p 0) ≡ Is x → eqb x 0 ≡ false → reached P n p ≡ field P p 0 ∷ []
+  reached-chosen h l e z = reached-by (omega arith) e ∙ rw (second, le-ltb (code P p) choiceNode h, z, lt-ltb (code P p) ternaryNode l)
 
-  reached-yes : {x : ℕ} → 111 < code P p → valueAt P n (field P p 0) ≡ Is x → eqb x 0 ≡ false → reached P n p ≡ field P p 0 ∷ field P p 1 ∷ []
-  reached-yes h e z = reached-by (omega arith) e ∙ rw (second, le-ltb (code P p) 96 (omega arith), z, le-ltb (code P p) 112 h)
+  reached-yes : {x : ℕ} → ternaryNode ≤ code P p → valueAt P n (field P p 0) ≡ Is x → eqb x 0 ≡ false → reached P n p ≡ field P p 0 ∷ field P p 1 ∷ []
+  reached-yes h e z = reached-by (omega arith) e ∙ rw (second, le-ltb (code P p) choiceNode (omega arith), z, le-ltb (code P p) ternaryNode h)
 
   -- a node that is no binary operator, or an operand of which has no value, does not itself divide by zero
-  not-nay : {b : Tree} → 47 < code P p → treeOf P p ≡ nay b → Divides P n p → ⊥
+  not-nay : {b : Tree} → nayNode ≤ code P p → treeOf P p ≡ nay b → Divides P n p → ⊥
   not-nay h e (own op s t x is d v w) = let k = sym e ∙ is in let z : _≡_ {A = ℕ} 0 1 = cc in omega arith
   not-nay h e (rest l m z) = omega arith
 
-  not-cond : {a b c : Tree} → 47 < code P p → treeOf P p ≡ cond a b c → Divides P n p → ⊥
+  not-cond : {a b c : Tree} → nayNode ≤ code P p → treeOf P p ≡ cond a b c → Divides P n p → ⊥
   not-cond h e (own op s t x is d v w) = let k = sym e ∙ is in let z : _≡_ {A = ℕ} 0 1 = cc in omega arith
   not-cond h e (rest l m z) = omega arith
 
-  not-left : {o : Op} {a b : Tree} → 47 < code P p → treeOf P p ≡ bin o a b → evalTree a n ≡ ZeroModulus → Divides P n p → ⊥
+  not-left : {o : Op} {a b : Tree} → nayNode ≤ code P p → treeOf P p ≡ bin o a b → evalTree a n ≡ ZeroModulus → Divides P n p → ⊥
   not-left h e f (own op s t x is d v w) = let k = same-left (sym e ∙ is) in clash v (rw k at f)
   not-left h e f (rest l m z) = omega arith
 
-  not-right : {o : Op} {a b : Tree} → 47 < code P p → treeOf P p ≡ bin o a b → evalTree b n ≡ ZeroModulus → Divides P n p → ⊥
+  not-right : {o : Op} {a b : Tree} → nayNode ≤ code P p → treeOf P p ≡ bin o a b → evalTree b n ≡ ZeroModulus → Divides P n p → ⊥
   not-right h e f (own op s t x is d v w) = let k = same-right (sym e ∙ is) in clash w (rw k at f)
   not-right h e f (rest l m z) = omega arith
 
@@ -225,8 +225,8 @@ module _ (P : Pool) (n p : ℕ) where
       let z = binary-zero o x y k in
       own o a b x e (z .0) v (w ∙ ap Is (z .1))
 
-  is-plain : code P p < 16 → treeOf P p ≡ elim (eqb (code P p) 0) [ true ↦ var | false ↦ int (value P p) ]
-  is-plain h = tree-leaf P p (omega arith) ∙ rw (leaf, lt-ltb (code P p) 16 h)
+  is-plain : code P p < nOp → treeOf P p ≡ elim (eqb (code P p) 0) [ true ↦ var | false ↦ int (value P p) ]
+  is-plain h = tree-leaf P p (omega arith) ∙ rw (leaf, lt-ltb (code P p) nOp h)
 
   -- x ? y : b, by the value of x
   module _ {y b : Tree} (t : treeOf P p ≡ cond (treeOf P (field P p 0)) y b) where
@@ -245,62 +245,62 @@ module _ (P : Pool) (n p : ℕ) where
         its-value t (ap (λ (u : Value). chosen u (evalTree y n) (evalTree b n)) e ∙ ap (λ (c : Bool). pickV c (evalTree b n) (evalTree y n)) d)
 
   module _ (s : Sound P p) where
-    leaf-case : code P p < 48 → Case
+    leaf-case : code P p < nayNode → Case
     unfolding evalTree binary
-    leaf-case h = whole-none (reached-none h) (λ f. low (ltb (code P p) 16) refl f)
+    leaf-case h = whole-none (reached-none h) (λ f. low (ltb (code P p) nOp) refl f)
       where
         number : (b : Bool) → evalTree (elim b [ true ↦ var | false ↦ int (value P p) ]) n ≡ ZeroModulus → ⊥
         number true e = no e
         number false e = no e
 
-        modulus : (b : Bool) → 31 < code P p → eqb (field P p 0) 0 ≡ b → valueAt P n p ≡ ZeroModulus → Divides P n p
+        modulus : (b : Bool) → restOp ≤ code P p → eqb (field P p 0) 0 ≡ b → valueAt P n p ≡ ZeroModulus → Divides P n p
         modulus true l e f = rest l h (eqb-true (field P p 0) 0 e)
         modulus false l e f =
-            let k = op-low s (omega arith) h in
+            let k = named (code P p - restOp) (omega arith) in
             divides-own (tree-leaf P p h ∙ leaf-rest (code P p) (field P p 0) (value P p) (k .is) l) (ap (λ (b : Bool). pickV b ZeroModulus (Is (n % field P p 0))) e) refl f
 
-        high : (b : Bool) → 15 < code P p → ltb (code P p) 32 ≡ b → valueAt P n p ≡ ZeroModulus → Divides P n p
+        high : (b : Bool) → nOp ≤ code P p → ltb (code P p) restOp ≡ b → valueAt P n p ≡ ZeroModulus → Divides P n p
         high true l e f =
-            let k = op-low s l h in
-            divides-own (tree-leaf P p h ∙ leaf-op (code P p) (field P p 0) (value P p) (k .is) l (ltb-true (code P p) 32 e)) refl refl f
-        high false l e f = modulus (eqb (field P p 0) 0) (ltb-false (code P p) 32 e) refl f
+            let k = named (code P p - nOp) (omega (arith, ltb-true (code P p) restOp e)) in
+            divides-own (tree-leaf P p h ∙ leaf-op (code P p) (field P p 0) (value P p) (k .is) l (ltb-true (code P p) restOp e)) refl refl f
+        high false l e f = modulus (eqb (field P p 0) 0) (ltb-false (code P p) restOp e) refl f
 
-        low : (b : Bool) → ltb (code P p) 16 ≡ b → valueAt P n p ≡ ZeroModulus → Divides P n p
+        low : (b : Bool) → ltb (code P p) nOp ≡ b → valueAt P n p ≡ ZeroModulus → Divides P n p
         low true e f =
-            absurd (number (eqb (code P p) 0) (sym (its-value (is-plain (ltb-true (code P p) 16 e)) refl) ∙ f))
-        low false e f = high (ltb (code P p) 32) (ltb-false (code P p) 16 e) refl f
+            absurd (number (eqb (code P p) 0) (sym (its-value (is-plain (ltb-true (code P p) nOp e)) refl) ∙ f))
+        low false e f = high (ltb (code P p) restOp) (ltb-false (code P p) nOp e) refl f
 
-    is-nay : code P p ≡ 48 → treeOf P p ≡ nay (treeOf P (p - 1))
-    is-nay h = tree-one P p (omega arith) (omega arith) (before-in s (omega arith)) ∙ rw (one, eq-eqb (code P p) 48 h)
+    is-nay : code P p ≡ nayNode → treeOf P p ≡ nay (treeOf P (p - 1))
+    is-nay h = tree-one P p (omega arith) (omega arith) (before-in s (omega arith)) ∙ rw (one, eq-eqb (code P p) nayNode h)
 
-    is-pick : 48 < code P p → code P p < 64 → treeOf P p ≡ cond (treeOf P (p - 1)) (int (value P p)) (int (field P p 0))
+    is-pick : nayNode < code P p → code P p < valueOp → treeOf P p ≡ cond (treeOf P (p - 1)) (int (value P p)) (int (field P p 0))
     is-pick h l =
-        tree-one P p (omega arith) (omega arith) (before-in s (omega arith)) ∙ rw (one, ne-eqb (code P p) 48 (omega arith), lt-ltb (code P p) 64 l)
+        tree-one P p (omega arith) (omega arith) (before-in s (omega arith)) ∙ rw (one, ne-eqb (code P p) nayNode (omega arith), lt-ltb (code P p) valueOp l)
 
-    is-one : 63 < code P p → code P p < 80 → (k : Named (code P p % 16)) → treeOf P p ≡ bin (k .op) (treeOf P (p - 1)) (int (value P p))
+    is-one : valueOp ≤ code P p → code P p < pairOp → (k : Named (code P p - valueOp)) → treeOf P p ≡ bin (k .op) (treeOf P (p - 1)) (int (value P p))
     is-one h l k =
         tree-one P p (omega arith) l (before-in s (omega arith))
-        ∙ one-op (code P p) (field P p 0) (value P p) (treeOf P (p - 1)) (treeOf P (p - 1)) (k .is) h
+        ∙ one-op (code P p) (field P p 0) (value P p) (treeOf P (p - 1)) (k .is) h
 
-    is-two : 79 < code P p → code P p < 96 → (k : Named (code P p % 16)) → treeOf P p ≡ bin (k .op) (treeOf P (field P p 0)) (treeOf P (p - 1))
+    is-two : pairOp ≤ code P p → code P p < choiceNode → (k : Named (code P p - pairOp)) → treeOf P p ≡ bin (k .op) (treeOf P (field P p 0)) (treeOf P (p - 1))
     is-two h l k =
         tree-two P p h (omega arith) (before-in s (omega arith)) (first-in s h)
-        ∙ two-op (code P p) 0 (value P p) (treeOf P (field P p 0)) (treeOf P (p - 1)) (k .is) l
+        ∙ two-op (code P p) (value P p) (treeOf P (field P p 0)) (treeOf P (p - 1)) (k .is) l
 
-    is-choice : 95 < code P p → code P p < 112 → treeOf P p ≡ cond (treeOf P (field P p 0)) (int (value P p)) (treeOf P (p - 1))
-    is-choice h l = tree-two P p (omega arith) l (before-in s (omega arith)) (first-in s (omega arith)) ∙ rw (two, le-ltb (code P p) 96 h)
+    is-choice : choiceNode ≤ code P p → code P p < ternaryNode → treeOf P p ≡ cond (treeOf P (field P p 0)) (int (value P p)) (treeOf P (p - 1))
+    is-choice h l = tree-two P p (omega arith) l (before-in s (omega arith)) (first-in s (omega arith)) ∙ rw (two, le-ltb (code P p) choiceNode h)
 
-    is-three : 111 < code P p → treeOf P p ≡ cond (treeOf P (field P p 0)) (treeOf P (field P p 1)) (treeOf P (p - 1))
+    is-three : ternaryNode ≤ code P p → treeOf P p ≡ cond (treeOf P (field P p 0)) (treeOf P (field P p 1)) (treeOf P (p - 1))
     is-three h = tree-three P p h (before-in s (omega arith)) (first-in s (omega arith)) (second-in s h)
 
-    nay-case : (v : Value) → code P p ≡ 48 → valueAt P n (p - 1) ≡ v → Case
+    nay-case : (v : Value) → code P p ≡ nayNode → valueAt P n (p - 1) ≡ v → Case
     unfolding evalTree negated
     nay-case (Is x) h e =
         whole-one (reached-one (omega arith) (omega arith)) e (λ f. clash (its-value (is-nay h) (ap negated e)) f)
     nay-case ZeroModulus h e =
         broken-one (reached-one (omega arith) (omega arith)) e (before-in s (omega arith)) (its-value (is-nay h) (ap negated e)) (not-nay (omega arith) (is-nay h))
 
-    pick-case : (v : Value) → 48 < code P p → code P p < 64 → valueAt P n (p - 1) ≡ v → Case
+    pick-case : (v : Value) → nayNode < code P p → code P p < valueOp → valueAt P n (p - 1) ≡ v → Case
     unfolding evalTree chosen
     pick-case (Is x) h l e =
         whole-one (reached-one (omega arith) (omega arith)) e
@@ -313,15 +313,15 @@ module _ (P : Pool) (n p : ℕ) where
         broken-one (reached-one (omega arith) (omega arith)) e (before-in s (omega arith))
         (its-value (is-pick h l) (ap (λ (u : Value). chosen u (Is (value P p)) (Is (field P p 0))) e)) (not-cond (omega arith) (is-pick h l))
 
-    one-case : (v : Value) → 63 < code P p → code P p < 80 → Named (code P p % 16) → valueAt P n (p - 1) ≡ v → Case
+    one-case : (v : Value) → valueOp ≤ code P p → code P p < pairOp → Named (code P p - valueOp) → valueAt P n (p - 1) ≡ v → Case
     unfolding evalTree binary
     one-case (Is x) h l k e = whole-one (reached-one (omega arith) l) e (λ f. divides-own (is-one h l k) e refl f)
     one-case ZeroModulus h l k e =
         broken-one (reached-one (omega arith) l) e (before-in s (omega arith))
         (its-value (is-one h l k) (ap (λ (u : Value). binary (k .op) u (Is (value P p))) e)) (not-left (omega arith) (is-one h l k) e)
 
-    both-case : (w : Value) {x : ℕ} → 79 < code P p → code P p < 96 → (k : Named (code P p % 16)) → valueAt P n (field P p 0) ≡ Is x
-        → settledBy (opOf (code P p % 16)) x ≡ false → valueAt P n (p - 1) ≡ w → Case
+    both-case : (w : Value) {x : ℕ} → pairOp ≤ code P p → code P p < choiceNode → (k : Named (code P p - pairOp)) → valueAt P n (field P p 0) ≡ Is x
+        → settledBy (opOf (code P p - pairOp)) x ≡ false → valueAt P n (p - 1) ≡ w → Case
     unfolding evalTree
     both-case (Is y) h l k e d f = whole-two (reached-both h e l d) e f (λ g. divides-own (is-two h l k) e f g)
     both-case ZeroModulus {x} h l k e d f =
@@ -330,14 +330,14 @@ module _ (P : Pool) (n p : ℕ) where
         ∙ unsettled (k .op) x (sym (ap (λ (o : Option Op). settledBy o x) (k .is)) ∙ d)))
         (not-right (omega arith) (is-two h l k) f)
 
-    two-case : (v : Value) → 79 < code P p → code P p < 96 → Named (code P p % 16) → valueAt P n (field P p 0) ≡ v → Case
+    two-case : (v : Value) → pairOp ≤ code P p → code P p < choiceNode → Named (code P p - pairOp) → valueAt P n (field P p 0) ≡ v → Case
     unfolding evalTree binary
     two-case ZeroModulus h l k e =
         broken-one (reached-by h e) e (first-in s h)
         (its-value (is-two h l k) (ap (λ (u : Value). binary (k .op) u (valueAt P n (p - 1))) e)) (not-left (omega arith) (is-two h l k) e)
-    two-case (Is x) h l k e = go (settledBy (opOf (code P p % 16)) x) refl
+    two-case (Is x) h l k e = go (settledBy (opOf (code P p - pairOp)) x) refl
       where
-        go : (b : Bool) → settledBy (opOf (code P p % 16)) x ≡ b → Case
+        go : (b : Bool) → settledBy (opOf (code P p - pairOp)) x ≡ b → Case
         go true d =
             whole-one (reached-settled h e l d) e
             (λ f. absurd (settled-value (k .op) x (valueAt P n (p - 1)) (sym (ap (λ (o : Option Op). settledBy o x) (k .is)) ∙ d)
@@ -345,7 +345,7 @@ module _ (P : Pool) (n p : ℕ) where
         go false d = both-case (valueAt P n (p - 1)) h l k e d refl
 
     -- of x ? y : b, where x is 0: what b is
-    no-case : (w : Value) {x : ℕ} {y : Tree} → 95 < code P p → treeOf P p ≡ cond (treeOf P (field P p 0)) y (treeOf P (p - 1))
+    no-case : (w : Value) {x : ℕ} {y : Tree} → choiceNode ≤ code P p → treeOf P p ≡ cond (treeOf P (field P p 0)) y (treeOf P (p - 1))
         → valueAt P n (field P p 0) ≡ Is x → eqb x 0 ≡ true → valueAt P n (p - 1) ≡ w → Case
     unfolding evalTree chosen
     no-case (Is z) {x} {y} h t e d f = whole-two (reached-no h e d) e f (λ g. clash (no-value t e d ∙ f) g)
@@ -353,12 +353,12 @@ module _ (P : Pool) (n p : ℕ) where
         broken-two (reached-no h e d) e f (before-in s (omega arith)) (no-value t e d ∙ f) (not-cond (omega arith) t)
 
     -- and where it is not: what y is
-    yes-case : (w : Value) {x : ℕ} → 111 < code P p → valueAt P n (field P p 0) ≡ Is x → eqb x 0 ≡ false → valueAt P n (field P p 1) ≡ w → Case
+    yes-case : (w : Value) {x : ℕ} → ternaryNode ≤ code P p → valueAt P n (field P p 0) ≡ Is x → eqb x 0 ≡ false → valueAt P n (field P p 1) ≡ w → Case
     yes-case (Is z) h e d f = whole-two (reached-yes h e d) e f (λ g. clash (yes-value (is-three h) e d ∙ f) g)
     yes-case ZeroModulus h e d f =
         broken-two (reached-yes h e d) e f (second-in s h) (yes-value (is-three h) e d ∙ f) (not-cond (omega arith) (is-three h))
 
-    choice-case : (v : Value) → 95 < code P p → code P p < 112 → valueAt P n (field P p 0) ≡ v → Case
+    choice-case : (v : Value) → choiceNode ≤ code P p → code P p < ternaryNode → valueAt P n (field P p 0) ≡ v → Case
     unfolding evalTree
     choice-case ZeroModulus h l e =
         broken-one (reached-by (omega arith) e) e (first-in s (omega arith)) (none-value (is-choice h l) e) (not-cond (omega arith) (is-choice h l))
@@ -368,7 +368,7 @@ module _ (P : Pool) (n p : ℕ) where
         go true d = no-case (valueAt P n (p - 1)) h (is-choice h l) e d refl
         go false d = whole-one (reached-chosen h l e d) e (λ g. clash (yes-value (is-choice h l) e d) g)
 
-    three-case : (v : Value) → 111 < code P p → valueAt P n (field P p 0) ≡ v → Case
+    three-case : (v : Value) → ternaryNode ≤ code P p → valueAt P n (field P p 0) ≡ v → Case
     three-case ZeroModulus h e =
         broken-one (reached-by (omega arith) e) e (first-in s (omega arith)) (none-value (is-three h) e) (not-cond (omega arith) (is-three h))
     three-case (Is x) h e = go (eqb x 0) refl
@@ -378,83 +378,83 @@ module _ (P : Pool) (n p : ℕ) where
         go false d = yes-case (valueAt P n (field P p 1)) h e d refl
 
     case-of : Case
-    case-of = at-48 (ltb (code P p) 48) refl
+    case-of = at-nay (ltb (code P p) nayNode) refl
       where
-        at-112 : (b : Bool) → 95 < code P p → ltb (code P p) 112 ≡ b → Case
-        at-112 true h e = choice-case (valueAt P n (field P p 0)) h (ltb-true (code P p) 112 e) refl
-        at-112 false h e = three-case (valueAt P n (field P p 0)) (ltb-false (code P p) 112 e) refl
+        at-ternary : (b : Bool) → choiceNode ≤ code P p → ltb (code P p) ternaryNode ≡ b → Case
+        at-ternary true h e = choice-case (valueAt P n (field P p 0)) h (ltb-true (code P p) ternaryNode e) refl
+        at-ternary false h e = three-case (valueAt P n (field P p 0)) (ltb-false (code P p) ternaryNode e) refl
 
-        at-96 : (b : Bool) → 79 < code P p → ltb (code P p) 96 ≡ b → Case
-        at-96 true h e = let l = ltb-true (code P p) 96 e in two-case (valueAt P n (field P p 0)) h l (op-high s (omega arith) l) refl
-        at-96 false h e = at-112 (ltb (code P p) 112) (ltb-false (code P p) 96 e) refl
+        at-choice : (b : Bool) → pairOp ≤ code P p → ltb (code P p) choiceNode ≡ b → Case
+        at-choice true h e = let l = ltb-true (code P p) choiceNode e in two-case (valueAt P n (field P p 0)) h l (named _ (omega arith)) refl
+        at-choice false h e = at-ternary (ltb (code P p) ternaryNode) (ltb-false (code P p) choiceNode e) refl
 
-        at-80 : (b : Bool) → 63 < code P p → ltb (code P p) 80 ≡ b → Case
-        at-80 true h e = let l = ltb-true (code P p) 80 e in one-case (valueAt P n (p - 1)) h l (op-high s h (omega arith)) refl
-        at-80 false h e = at-96 (ltb (code P p) 96) (ltb-false (code P p) 80 e) refl
+        at-pair : (b : Bool) → valueOp ≤ code P p → ltb (code P p) pairOp ≡ b → Case
+        at-pair true h e = let l = ltb-true (code P p) pairOp e in one-case (valueAt P n (p - 1)) h l (named _ (omega arith)) refl
+        at-pair false h e = at-choice (ltb (code P p) choiceNode) (ltb-false (code P p) pairOp e) refl
 
-        at-64 : (b : Bool) → 48 < code P p → ltb (code P p) 64 ≡ b → Case
-        at-64 true h e = pick-case (valueAt P n (p - 1)) h (ltb-true (code P p) 64 e) refl
-        at-64 false h e = at-80 (ltb (code P p) 80) (ltb-false (code P p) 64 e) refl
+        at-value : (b : Bool) → nayNode < code P p → ltb (code P p) valueOp ≡ b → Case
+        at-value true h e = pick-case (valueAt P n (p - 1)) h (ltb-true (code P p) valueOp e) refl
+        at-value false h e = at-pair (ltb (code P p) pairOp) (ltb-false (code P p) valueOp e) refl
 
-        at-49 : (b : Bool) → 47 < code P p → ltb (code P p) 49 ≡ b → Case
-        at-49 true h e = let l = ltb-true (code P p) 49 e in nay-case (valueAt P n (p - 1)) (omega arith) refl
-        at-49 false h e = at-64 (ltb (code P p) 64) (ltb-false (code P p) 49 e) refl
+        at-pick : (b : Bool) → nayNode ≤ code P p → ltb (code P p) pickNode ≡ b → Case
+        at-pick true h e = let l = ltb-true (code P p) pickNode e in nay-case (valueAt P n (p - 1)) (omega arith) refl
+        at-pick false h e = at-value (ltb (code P p) valueOp) (ltb-false (code P p) pickNode e) refl
 
-        at-48 : (b : Bool) → ltb (code P p) 48 ≡ b → Case
-        at-48 true e = leaf-case (ltb-true (code P p) 48 e)
-        at-48 false e = at-49 (ltb (code P p) 49) (ltb-false (code P p) 48 e) refl
+        at-nay : (b : Bool) → ltb (code P p) nayNode ≡ b → Case
+        at-nay true e = leaf-case (ltb-true (code P p) nayNode e)
+        at-nay false e = at-pick (ltb (code P p) pickNode) (ltb-false (code P p) nayNode e) refl
 
     divides-fails : Divides P n p → valueAt P n p ≡ ZeroModulus
     unfolding evalTree binary
     divides-fails (own op a b x is d v w) =
         its-value is (ap (λ (u : Value). binary op u (evalTree b n)) v ∙ ap (binary op (Is x)) w ∙ divided op x d)
     divides-fails (rest h l z) =
-        let k = op-low s (omega arith) l in
+        let k = named (code P p - restOp) (omega arith) in
         its-value (tree-leaf P p l ∙ leaf-rest (code P p) (field P p 0) (value P p) (k .is) h)
         (ap (λ (b : Bool). binary (k .op) (pickV b ZeroModulus (Is (n % field P p 0))) (Is (value P p))) (eq-eqb (field P p 0) 0 z))
 
     -- the operands lie below
-    low-two : {b r : ℕ} → 79 < code P p → b < p → member r (field P p 0 ∷ b ∷ []) ≡ true → r < p
+    low-two : {b r : ℕ} → pairOp ≤ code P p → b < p → member r (field P p 0 ∷ b ∷ []) ≡ true → r < p
     low-two h l m = ⊎-elim (λ z. omega (arith, first-in s h)) (λ z. omega arith) (member-two (field P p 0) _ _ m)
 
-    low-one : {r : ℕ} → 79 < code P p → member r (field P p 0 ∷ []) ≡ true → r < p
+    low-one : {r : ℕ} → pairOp ≤ code P p → member r (field P p 0 ∷ []) ≡ true → r < p
     low-one h m = omega (arith, first-in s h, member-one (field P p 0) _ m)
 
-    low-second : (v : Value) {r : ℕ} → 79 < code P p → member r (field P p 0 ∷ second P p v) ≡ true → r < p
+    low-second : (v : Value) {r : ℕ} → pairOp ≤ code P p → member r (field P p 0 ∷ second P p v) ≡ true → r < p
     low-second ZeroModulus h m = low-one h m
-    low-second (Is x) {r} h m = go (ltb (code P p) 96) refl
+    low-second (Is x) {r} h m = go (ltb (code P p) choiceNode) refl
       where
         settles : (b : Bool) → member r (field P p 0 ∷ elim b [ true ↦ [] | false ↦ (p - 1) ∷ [] ]) ≡ true → r < p
         settles true k = low-one h k
         settles false k = low-two h (before-in s (omega arith)) k
 
-        arm : (b : Bool) → ltb (code P p) 112 ≡ b → member r (field P p 0 ∷ elim b [ true ↦ [] | false ↦ field P p 1 ∷ [] ]) ≡ true → r < p
+        arm : (b : Bool) → ltb (code P p) ternaryNode ≡ b → member r (field P p 0 ∷ elim b [ true ↦ [] | false ↦ field P p 1 ∷ [] ]) ≡ true → r < p
         arm true e k = low-one h k
-        arm false e k = low-two h (second-in s (ltb-false (code P p) 112 e)) k
+        arm false e k = low-two h (second-in s (ltb-false (code P p) ternaryNode e)) k
 
         chooses : (b : Bool)
-            → member r (field P p 0 ∷ elim b [ true ↦ (p - 1) ∷ [] | false ↦ elim (ltb (code P p) 112) [ true ↦ [] | false ↦ field P p 1 ∷ [] ] ]) ≡ true
+            → member r (field P p 0 ∷ elim b [ true ↦ (p - 1) ∷ [] | false ↦ elim (ltb (code P p) ternaryNode) [ true ↦ [] | false ↦ field P p 1 ∷ [] ] ]) ≡ true
             → r < p
         chooses true k = low-two h (before-in s (omega arith)) k
-        chooses false k = arm (ltb (code P p) 112) refl k
+        chooses false k = arm (ltb (code P p) ternaryNode) refl k
 
-        go : (b : Bool) → ltb (code P p) 96 ≡ b → r < p
-        go true e = settles (settledBy (opOf (code P p % 16)) x) (rw (second, e) at m)
+        go : (b : Bool) → ltb (code P p) choiceNode ≡ b → r < p
+        go true e = settles (settledBy (opOf (code P p - pairOp)) x) (rw (second, e) at m)
         go false e = chooses (eqb x 0) (rw (second, e) at m)
 
     reached-low : {r : ℕ} → member r (reached P n p) ≡ true → r < p
     unfolding member
-    reached-low {r} m = at-48 (ltb (code P p) 48) refl
+    reached-low {r} m = at-nay (ltb (code P p) nayNode) refl
       where
-        at-80 : (b : Bool) → 47 < code P p → ltb (code P p) 80 ≡ b → r < p
-        at-80 true h e =
-            let z = member-one (p - 1) r (rw (reached-one h (ltb-true (code P p) 80 e)) at m) in
+        at-pair : (b : Bool) → nayNode ≤ code P p → ltb (code P p) pairOp ≡ b → r < p
+        at-pair true h e =
+            let z = member-one (p - 1) r (rw (reached-one h (ltb-true (code P p) pairOp e)) at m) in
             omega (arith, before-in s h)
-        at-80 false h e = let l = ltb-false (code P p) 80 e in low-second (valueAt P n (field P p 0)) l (rw (reached-by l refl) at m)
+        at-pair false h e = let l = ltb-false (code P p) pairOp e in low-second (valueAt P n (field P p 0)) l (rw (reached-by l refl) at m)
 
-        at-48 : (b : Bool) → ltb (code P p) 48 ≡ b → r < p
-        at-48 true e = never (rw (reached-none (ltb-true (code P p) 48 e)) at m)
-        at-48 false e = at-80 (ltb (code P p) 80) (ltb-false (code P p) 48 e) refl
+        at-nay : (b : Bool) → ltb (code P p) nayNode ≡ b → r < p
+        at-nay true e = never (rw (reached-none (ltb-true (code P p) nayNode e)) at m)
+        at-nay false e = at-pair (ltb (code P p) pairOp) (ltb-false (code P p) nayNode e) refl
 
 -- evaluation at n of the tree at p gets to the node at q, which divides by zero
 pub record Meets (P : Pool) (n p q : ℕ) : Type 0 where

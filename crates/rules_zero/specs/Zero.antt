@@ -1,6 +1,6 @@
 -- Where evaluation meets a zero divisor. SPEC 6.4 and 9.7: it goes to the operands of a node in order, of which it passes by what it does not need, and it
 -- stops at the first % or / whose divisor is 0. Its node is the one that holds it: a packed node holds up to two operators.
-use Prim.Native.Nat.{ℕ, zero, suc, _-_, _%_}
+use Prim.Native.Nat.{ℕ, zero, suc, _-_}
 use mathlib.Core.Bool.{true, false}
 use mathlib.Core.List.{List, [], _∷_}
 use lib.Dec.{ltb, eqb}
@@ -10,7 +10,7 @@ use Rattle.rules.specs.declared.Resolved.{Resolved}
 use Rattle.rules.specs.declared.Resolved.the-variants as resolved
 use Rattle.rules.specs.Value.{evalTree}
 use Rattle.rules.specs.Operator.{opOf}
-use Rattle.rules.specs.Pool.{Pool, code, field, treeOf}
+use Rattle.rules.specs.Pool.{Pool, code, field, treeOf, nayNode, pairOp, choiceNode, ternaryNode}
 use Rattle.rules.specs.Answer.{resolvedOf}
 use Rattle.rules_operators.specs.Operator.{settledBy}
 use Rattle.rules_zero.specs.declared.Traced.{Traced}
@@ -24,17 +24,17 @@ valueAt P n q = evalTree (treeOf P q) n
 abbrev pub second : Pool → ℕ → Value → List ℕ
 second P p ZeroModulus = []
 second P p (Is x) =
-    elim (ltb (code P p) 96) [
-      | true ↦ elim (settledBy (opOf (code P p % 16)) x) [ true ↦ [] | false ↦ (p - 1) ∷ [] ]
-      | false ↦ elim (eqb x 0) [ true ↦ (p - 1) ∷ [] | false ↦ elim (ltb (code P p) 112) [ true ↦ [] | false ↦ field P p 1 ∷ [] ] ]
+    elim (ltb (code P p) choiceNode) [
+      | true ↦ elim (settledBy (opOf (code P p - pairOp)) x) [ true ↦ [] | false ↦ (p - 1) ∷ [] ]
+      | false ↦ elim (eqb x 0) [ true ↦ (p - 1) ∷ [] | false ↦ elim (ltb (code P p) ternaryNode) [ true ↦ [] | false ↦ field P p 1 ∷ [] ] ]
     ]
 
 -- the operands of the node at p that evaluation at n gets to, in its order
 unfoldable pub reached : Pool → ℕ → ℕ → List ℕ
 reached P n p =
-    elim (ltb (code P p) 48) [
+    elim (ltb (code P p) nayNode) [
       | true ↦ []
-      | false ↦ elim (ltb (code P p) 80) [ true ↦ (p - 1) ∷ [] | false ↦ field P p 0 ∷ second P p (valueAt P n (field P p 0)) ]
+      | false ↦ elim (ltb (code P p) pairOp) [ true ↦ (p - 1) ∷ [] | false ↦ field P p 0 ∷ second P p (valueAt P n (field P p 0)) ]
     ]
 
 -- the first of some places whose tree has no value, or else p

@@ -61,7 +61,7 @@ fn step<'a>(
         return first;
     };
     if code < node::CHOICE {
-        if settles(code % 16, x) {
+        if settles(code - node::OP, x) {
             return at;
         }
         return without(codes, places, values, at - 1, at, n);

@@ -4,6 +4,7 @@ use Prim.Native.Nat.{ℕ, _-_}
 use native.Mathlib.Omega.{arith}
 use lib.ListN.{getD}
 use Rattle.rules.specs.Operator.{opCode}
+use Rattle.rules.specs.Pool.{pairOp}
 use Rattle.rules.proofs.Operators.{code-in}
 use Rattle.reading_tokens.proofs.Rows.{ranks, ranked}
 use borrow.Author.Needs.{needs}
@@ -20,7 +21,7 @@ array-read-result : tie.Need-array-read-result
 array-read-result c = omega (arith, c .pre .is, code-in (c .pre .op))
 
 returns : tie.Need-returns
-returns c = record { is = λ op e. let d : c .args .c - 80 ≡ opCode op = omega arith in ap (λ (i : ℕ). getD ranks i 0) d ∙ ranked op }
+returns c = record { is = λ op e. let d : c .args .c - pairOp ≡ opCode op = omega arith in ap (λ (i : ℕ). getD ranks i 0) d ∙ ranked op }
 
 pub rank-of-spec : {M : Type 1} → statement M
 rank-of-spec = tie.close (tie.spec sub-result cast-result array-read-result returns)

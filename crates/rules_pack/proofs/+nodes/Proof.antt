@@ -4,10 +4,10 @@ use mathlib.Core.Path.{refl}
 use native.Mathlib.Omega.{arith}
 use denote.Ref.{now}
 use borrow.Author.Needs.{needs}
-use Rattle.rules.specs.Pool.{Pool, pool, code, treeOf}
+use Rattle.rules.specs.Pool.{Pool, pool, code, treeOf, nOp, restOp, pickNode, valueOp, pairOp, choiceNode}
 use Rattle.rules.proofs.Stored.{packed-pos}
-use Rattle.rules_pack.proofs.Laws.{last-in, left-in, mid-in, binary, lower, inside, high, IsLeaf, IsOne, IsTwo, IsThree, is-var, is-int, is-nay, is-three, is-chosen, is-picked, is-two, is-op, is-rest, is-one, size-leaf, size-one, size-two, size-three, past, cond-room, done-leaf, done-one, done-two, done-three, call}
-use Prim.Native.Nat.{ℕ, _+_, _-_, _<_, _%_}
+use Rattle.rules_pack.proofs.Laws.{Pair, last-in, left-in, mid-in, binary, lower, inside, high, IsLeaf, IsOne, IsTwo, IsThree, is-var, is-int, is-nay, is-three, is-chosen, is-picked, is-two, is-op, is-rest, is-one, size-leaf, size-one, size-two, size-three, past, cond-room, done-leaf, done-one, done-two, done-three, call}
+use Prim.Native.Nat.{ℕ, _+_, _-_, _<_}
 use borrow.Fn.Kinds.{In}
 use borrow.Fn.PlainCycle.{Measures, is, falls, and}
 use Rattle.rules_pack.proofs.nodes.Reads as nodes
@@ -44,23 +44,26 @@ P s = pool (now (s .args .codes)) (now (s .args .places)) (now (s .args .values)
 three-here : {t : ℕ} (d : nodes-lts.After-enum-told (R-nodes t) (nodes-at t) nodes.Post) → IsThree (treeOf (P (d .before .before .before .before .before .before .before .before .before .before .before .before .before .before)) (d .before .before .before .before .before .before .before .before .before .before .before .before .before .before .args .at)) (treeOf (P (d .before .before .before .before .before .before .before .before .before .before .before .before .before .before)) (d .before .before .before .before .before .before .before .before .before .place .result)) (treeOf (P (d .before .before .before .before .before .before .before .before .before .before .before .before .before .before)) (d .before .before .before .before .before .before .before .place2 .result)) (treeOf (P (d .before .before .before .before .before .before .before .before .before .before .before .before .before .before)) (d .before .before .before .before .before .before .before .before .before .before .before .before .before .before .args .at - 1))
 three-here {t} d = let s : St t = d .before .before .before .before .before .before .before .before .before .before .before .before .before .before in is-three (s .pre .1 .0) (d .before .before .before .before .before .before .before .before .if4 .taken) (d .before .before .before .before .before .before .before .before .before .place .ensures) (d .before .before .before .before .before .before .before .place2 .ensures) refl (d .before .before .before .before .before .before .number-of .ensures) (d .enum-told .given .1)
 
-chosen-here : {t : ℕ} (d : nodes-lts.After-enum-told2 (R-nodes t) (nodes-at t) nodes.Post) → IsTwo (treeOf (P (d .before .before .before .before .before .before .before .before .before .before .before .before .before .before .before .before .before .before)) (d .before .before .before .before .before .before .before .before .before .before .before .before .before .before .before .before .before .before .args .at)) (treeOf (P (d .before .before .before .before .before .before .before .before .before .before .before .before .before .before .before .before .before .before)) (d .before .before .before .before .before .before .before .before .before .before .before .before .before .place .result)) (treeOf (P (d .before .before .before .before .before .before .before .before .before .before .before .before .before .before .before .before .before .before)) (d .before .before .before .before .before .before .before .before .before .before .before .before .before .before .before .before .before .before .args .at - 1)) 96 (d .before .before .before .before .number .given .0 .0)
+chosen-here : {t : ℕ} (d : nodes-lts.After-enum-told2 (R-nodes t) (nodes-at t) nodes.Post) → IsTwo (treeOf (P (d .before .before .before .before .before .before .before .before .before .before .before .before .before .before .before .before .before .before)) (d .before .before .before .before .before .before .before .before .before .before .before .before .before .before .before .before .before .before .args .at)) (treeOf (P (d .before .before .before .before .before .before .before .before .before .before .before .before .before .before .before .before .before .before)) (d .before .before .before .before .before .before .before .before .before .before .before .before .before .place .result)) (treeOf (P (d .before .before .before .before .before .before .before .before .before .before .before .before .before .before .before .before .before .before)) (d .before .before .before .before .before .before .before .before .before .before .before .before .before .before .before .before .before .before .args .at - 1)) choiceNode (d .before .before .before .before .number .given .0 .0)
 chosen-here {t} d = let s : St t = d .before .before .before .before .before .before .before .before .before .before .before .before .before .before .before .before .before .before in is-chosen (s .pre .1 .0) (d .before .before .before .before .before .before .before .before .before .before .before .before .if4 .taken) (d .before .before .before .before .before .before .before .before .before .before .before .before .before .place .ensures) (d .before .before .before .before .before .before .before .before .before .before .before .place2 .ensures) refl (d .before .before .before .before .before .before .before .before .before .before .number-of .ensures) (d .before .before .before .before .number .given .1) (d .before .before .small-of .ensures) (d .enum-told2 .given .1)
 
-picked-here : {t : ℕ} (d : nodes-lts.After-known-told2 (R-nodes t) (nodes-at t) nodes.Post) → IsOne (treeOf (P (d .before .before .before .before .before .before .before .before .before .before .before .before .before .before .before .before .before .before .before)) (d .before .before .before .before .before .before .before .before .before .before .before .before .before .before .before .before .before .before .before .args .at)) (treeOf (P (d .before .before .before .before .before .before .before .before .before .before .before .before .before .before .before .before .before .before .before)) (d .before .before .before .before .before .before .before .before .before .before .before .before .before .before .place .result)) 49 (d .before .small .given .0 .0) (d .before .before .before .before .before .number .given .0 .0)
+picked-here : {t : ℕ} (d : nodes-lts.After-known-told2 (R-nodes t) (nodes-at t) nodes.Post) → IsOne (treeOf (P (d .before .before .before .before .before .before .before .before .before .before .before .before .before .before .before .before .before .before .before)) (d .before .before .before .before .before .before .before .before .before .before .before .before .before .before .before .before .before .before .before .args .at)) (treeOf (P (d .before .before .before .before .before .before .before .before .before .before .before .before .before .before .before .before .before .before .before)) (d .before .before .before .before .before .before .before .before .before .before .before .before .before .before .place .result)) pickNode (d .before .small .given .0 .0) (d .before .before .before .before .before .number .given .0 .0)
 picked-here {t} d = let s : St t = d .before .before .before .before .before .before .before .before .before .before .before .before .before .before .before .before .before .before .before in is-picked (s .pre .1 .0) (d .before .before .before .before .before .before .before .before .before .before .before .before .before .if4 .taken) (d .before .before .before .before .before .before .before .before .before .before .before .before .before .before .place .ensures) (d .before .before .before .before .before .before .before .before .before .before .before .before .place2 .ensures) refl (d .before .before .before .before .before .before .before .before .before .before .before .number-of .ensures) (d .before .before .before .before .before .number .given .1) (d .before .before .before .small-of .ensures) (d .before .small .given .1)
 
+pair-here : {t : ℕ} (d : nodes-lts.Else4 (R-nodes t) (nodes-at t) nodes.Post) → Pair (code (P (d .before .before .before .before .before .before)) (d .before .before .before .before .before .before .args .at))
+pair-here {t} d = let s : St t = d .before .before .before .before .before .before in binary (s .pre .1 .0) (d .before .before .before .before .if1 .left) (d .before .before .before .if2 .left) (d .before .before .if3 .left) (d .if4 .left)
+
 two-here : {t : ℕ} (d : nodes-lts.After-enum-told3 (R-nodes t) (nodes-at t) nodes.Post) → IsTwo (treeOf (P (d .before .before .before .before .before .before .before .before .before)) (d .before .before .before .before .before .before .before .before .before .args .at)) (treeOf (P (d .before .before .before .before .before .before .before .before .before)) (d .before .before .before .before .place .result)) (treeOf (P (d .before .before .before .before .before .before .before .before .before)) (d .before .before .before .before .before .before .before .before .before .args .at - 1)) (code (P (d .before .before .before .before .before .before .before .before .before)) (d .before .before .before .before .before .before .before .before .before .args .at)) 0
-two-here {t} d = let s : St t = d .before .before .before .before .before .before .before .before .before in is-two (s .pre .1 .0) (binary (s .pre .1 .0) (d .before .before .before .before .before .before .before .if1 .left) (d .before .before .before .before .before .before .if2 .left) (d .before .before .before .before .before .if3 .left) (d .before .before .before .if4 .left)) (d .before .before .before .before .place .ensures) refl (d .before .before .number-of2 .ensures) (d .enum-told3 .given .1)
+two-here {t} d = let s : St t = d .before .before .before .before .before .before .before .before .before in is-two (s .pre .1 .0) (pair-here (d .before .before .before)) (d .before .before .before .before .place .ensures) refl (d .before .before .number-of2 .ensures) (d .enum-told3 .given .1)
 
-op-here : {t : ℕ} (d : nodes-lts.After-enum-told4 (R-nodes t) (nodes-at t) nodes.Post) → IsLeaf (treeOf (P (d .before .before .before .before .before .before .before .before .before .before .before .before .before)) (d .before .before .before .before .before .before .before .before .before .before .before .before .before .args .at)) (16 + code (P (d .before .before .before .before .before .before .before .before .before .before .before .before .before)) (d .before .before .before .before .before .before .before .before .before .before .before .before .before .args .at) % 16) 0 (d .before .before .before .before .number2 .given .0 .0)
-op-here {t} d = let s : St t = d .before .before .before .before .before .before .before .before .before .before .before .before .before in is-op (s .pre .1 .0) (binary (s .pre .1 .0) (d .before .before .before .before .before .before .before .before .before .before .before .if1 .left) (d .before .before .before .before .before .before .before .before .before .before .if2 .left) (d .before .before .before .before .before .before .before .before .before .if3 .left) (d .before .before .before .before .before .before .before .if4 .left)) (d .before .before .before .before .before .before .before .before .place .ensures) refl (d .before .before .before .before .before .before .number-of2 .ensures) (d .before .before .before .before .number2 .given .1) (d .before .before .left-of .ensures) (d .enum-told4 .given .1)
+op-here : {t : ℕ} (d : nodes-lts.After-enum-told4 (R-nodes t) (nodes-at t) nodes.Post) → IsLeaf (treeOf (P (d .before .before .before .before .before .before .before .before .before .before .before .before .before)) (d .before .before .before .before .before .before .before .before .before .before .before .before .before .args .at)) (nOp + code (P (d .before .before .before .before .before .before .before .before .before .before .before .before .before)) (d .before .before .before .before .before .before .before .before .before .before .before .before .before .args .at) - pairOp) 0 (d .before .before .before .before .number2 .given .0 .0)
+op-here {t} d = let s : St t = d .before .before .before .before .before .before .before .before .before .before .before .before .before in is-op (s .pre .1 .0) (pair-here (d .before .before .before .before .before .before .before)) (d .before .before .before .before .before .before .before .before .place .ensures) refl (d .before .before .before .before .before .before .number-of2 .ensures) (d .before .before .before .before .number2 .given .1) (d .before .before .left-of .ensures) (d .enum-told4 .given .1)
 
-rest-here : {t : ℕ} (d : nodes-lts.After-known-told4 (R-nodes t) (nodes-at t) nodes.Post) → IsLeaf (treeOf (P (d .before .before .before .before .before .before .before .before .before .before .before .before .before .before)) (d .before .before .before .before .before .before .before .before .before .before .before .before .before .before .args .at)) (32 + code (P (d .before .before .before .before .before .before .before .before .before .before .before .before .before .before)) (d .before .before .before .before .before .before .before .before .before .before .before .before .before .before .args .at) % 16) (d .before .left .given .0 .0) (d .before .before .before .before .before .number2 .given .0 .0)
-rest-here {t} d = let s : St t = d .before .before .before .before .before .before .before .before .before .before .before .before .before .before in is-rest (s .pre .1 .0) (binary (s .pre .1 .0) (d .before .before .before .before .before .before .before .before .before .before .before .before .if1 .left) (d .before .before .before .before .before .before .before .before .before .before .before .if2 .left) (d .before .before .before .before .before .before .before .before .before .before .if3 .left) (d .before .before .before .before .before .before .before .before .if4 .left)) (d .before .before .before .before .before .before .before .before .before .place .ensures) refl (d .before .before .before .before .before .before .before .number-of2 .ensures) (d .before .before .before .before .before .number2 .given .1) (d .before .before .before .left-of .ensures) (d .before .left .given .1)
+rest-here : {t : ℕ} (d : nodes-lts.After-known-told4 (R-nodes t) (nodes-at t) nodes.Post) → IsLeaf (treeOf (P (d .before .before .before .before .before .before .before .before .before .before .before .before .before .before)) (d .before .before .before .before .before .before .before .before .before .before .before .before .before .before .args .at)) (restOp + code (P (d .before .before .before .before .before .before .before .before .before .before .before .before .before .before)) (d .before .before .before .before .before .before .before .before .before .before .before .before .before .before .args .at) - pairOp) (d .before .left .given .0 .0) (d .before .before .before .before .before .number2 .given .0 .0)
+rest-here {t} d = let s : St t = d .before .before .before .before .before .before .before .before .before .before .before .before .before .before in is-rest (s .pre .1 .0) (pair-here (d .before .before .before .before .before .before .before .before)) (d .before .before .before .before .before .before .before .before .before .place .ensures) refl (d .before .before .before .before .before .before .before .number-of2 .ensures) (d .before .before .before .before .before .number2 .given .1) (d .before .before .before .left-of .ensures) (d .before .left .given .1)
 
-one-here : {t : ℕ} (d : nodes-lts.After-enum-told5 (R-nodes t) (nodes-at t) nodes.Post) → IsOne (treeOf (P (d .before .before .before .before .before .before .before .before .before .before .before .before .before)) (d .before .before .before .before .before .before .before .before .before .before .before .before .before .args .at)) (treeOf (P (d .before .before .before .before .before .before .before .before .before .before .before .before .before)) (d .before .before .before .before .before .before .before .before .place .result)) (64 + code (P (d .before .before .before .before .before .before .before .before .before .before .before .before .before)) (d .before .before .before .before .before .before .before .before .before .before .before .before .before .args .at) % 16) 0 (d .before .before .before .before .number2 .given .0 .0)
-one-here {t} d = let s : St t = d .before .before .before .before .before .before .before .before .before .before .before .before .before in is-one (s .pre .1 .0) (binary (s .pre .1 .0) (d .before .before .before .before .before .before .before .before .before .before .before .if1 .left) (d .before .before .before .before .before .before .before .before .before .before .if2 .left) (d .before .before .before .before .before .before .before .before .before .if3 .left) (d .before .before .before .before .before .before .before .if4 .left)) (d .before .before .before .before .before .before .before .before .place .ensures) refl (d .before .before .before .before .before .before .number-of2 .ensures) (d .before .before .before .before .number2 .given .1) (d .before .before .left-of .ensures) (d .enum-told5 .given .1)
+one-here : {t : ℕ} (d : nodes-lts.After-enum-told5 (R-nodes t) (nodes-at t) nodes.Post) → IsOne (treeOf (P (d .before .before .before .before .before .before .before .before .before .before .before .before .before)) (d .before .before .before .before .before .before .before .before .before .before .before .before .before .args .at)) (treeOf (P (d .before .before .before .before .before .before .before .before .before .before .before .before .before)) (d .before .before .before .before .before .before .before .before .place .result)) (valueOp + code (P (d .before .before .before .before .before .before .before .before .before .before .before .before .before)) (d .before .before .before .before .before .before .before .before .before .before .before .before .before .args .at) - pairOp) 0 (d .before .before .before .before .number2 .given .0 .0)
+one-here {t} d = let s : St t = d .before .before .before .before .before .before .before .before .before .before .before .before .before in is-one (s .pre .1 .0) (pair-here (d .before .before .before .before .before .before .before)) (d .before .before .before .before .before .before .before .before .place .ensures) refl (d .before .before .before .before .before .before .number-of2 .ensures) (d .before .before .before .before .number2 .given .1) (d .before .before .left-of .ensures) (d .enum-told5 .given .1)
 
 nodes-element-copy-out-code : (t : ℕ) → nodes-lts.Need-element-copy-out-code (R-nodes t) (nodes-at t) nodes.Post
 nodes-element-copy-out-code t c = search needs
@@ -225,7 +228,10 @@ nodes-enum-told-4 : (t : ℕ) → nodes-lts.Need-enum-told-4 (R-nodes t) (nodes-
 nodes-enum-told-4 t c = search needs
 
 nodes-add-put : (t : ℕ) → nodes-lts.Need-add-put (R-nodes t) (nodes-at t) nodes.Post
-nodes-add-put t c = search needs
+nodes-add-put t c = let e = pair-here (c .before .before .before .before .before .before .before .before .before .before) in search needs
+
+nodes-sub-put : (t : ℕ) → nodes-lts.Need-sub-put (R-nodes t) (nodes-at t) nodes.Post
+nodes-sub-put t c = let e = pair-here (c .before .before .before .before .before .before .before .before .before .before) in search needs
 
 nodes-put-requires-8 : (t : ℕ) → nodes-lts.Need-put-requires-8 (R-nodes t) (nodes-at t) nodes.Post
 nodes-put-requires-8 t c κs = let s : St t = c .before .before .before .before .before .before .before .before .before .before .before .before .before .before .before .before in omega (arith, s .pre .1 .1, size-leaf (op-here (c .before .before .before)))
@@ -237,7 +243,10 @@ nodes-enum-known-left : (t : ℕ) → nodes-lts.Need-enum-known-left (R-nodes t)
 nodes-enum-known-left t c = search needs
 
 nodes-add-put-2 : (t : ℕ) → nodes-lts.Need-add-put-2 (R-nodes t) (nodes-at t) nodes.Post
-nodes-add-put-2 t c = search needs
+nodes-add-put-2 t c = let e = pair-here (c .before .before .before .before .before .before .before .before .before .before .before) in search needs
+
+nodes-sub-put-2 : (t : ℕ) → nodes-lts.Need-sub-put-2 (R-nodes t) (nodes-at t) nodes.Post
+nodes-sub-put-2 t c = let e = pair-here (c .before .before .before .before .before .before .before .before .before .before .before) in search needs
 
 nodes-put-requires-9 : (t : ℕ) → nodes-lts.Need-put-requires-9 (R-nodes t) (nodes-at t) nodes.Post
 nodes-put-requires-9 t c κs = let s : St t = c .before .before .before .before .before .before .before .before .before .before .before .before .before .before .before .before .before in omega (arith, s .pre .1 .1, size-leaf (rest-here (c .before .before .before)))
@@ -252,7 +261,10 @@ nodes-nodes-requires-8 : (t : ℕ) → nodes-lts.Need-nodes-requires-8 (R-nodes 
 nodes-nodes-requires-8 t c κs = let s : St t = c .before .before .before .before .before .before .before .before .before .before .before .before .before .before .before .before in call (s .pre .1 .0) (s .pre .0) (left-in (s .pre .1 .0) (c .before .before .before .before .before .before .before .before .before .before .before .before .before .before .if1 .left) (c .before .before .before .before .before .before .before .before .before .before .before .before .before .if2 .left) (c .before .before .before .before .before .before .before .before .before .before .before .before .if3 .left)) (c .before .before .before .before .before .before .before .before .before .before .before .place .ensures) (omega (arith, s .pre .1 .1, size-one (one-here (c .before .before .before))))
 
 nodes-add-put-3 : (t : ℕ) → nodes-lts.Need-add-put-3 (R-nodes t) (nodes-at t) nodes.Post
-nodes-add-put-3 t c = search needs
+nodes-add-put-3 t c = let e = pair-here (c .before .before .before .before .before .before .before .before .before .before .before .before .before .before) in search needs
+
+nodes-sub-put-3 : (t : ℕ) → nodes-lts.Need-sub-put-3 (R-nodes t) (nodes-at t) nodes.Post
+nodes-sub-put-3 t c = let e = pair-here (c .before .before .before .before .before .before .before .before .before .before .before .before .before .before) in search needs
 
 nodes-put-requires-10 : (t : ℕ) → nodes-lts.Need-put-requires-10 (R-nodes t) (nodes-at t) nodes.Post
 nodes-put-requires-10 t c κs = let s : St t = c .before .before .before .before .before .before .before .before .before .before .before .before .before .before .before .before .before .before .before .before in omega (arith, s .pre .1 .1, size-one (one-here (c .before .before .before .before .before .before .before)), c .before .before .before .nodes8 .ensures .end)
@@ -343,15 +355,18 @@ pub +nodes-spec : {M : Type 1} → statement M
     (nodes-left-of-requires t)
     (nodes-enum-told-4 t)
     (nodes-add-put t)
+    (nodes-sub-put t)
     (nodes-put-requires-8 t)
     (nodes-add-result-8 t)
     (nodes-enum-known-left t)
     (nodes-add-put-2 t)
+    (nodes-sub-put-2 t)
     (nodes-put-requires-9 t)
     (nodes-add-result-9 t)
     (nodes-enum-told-5 t)
     (nodes-nodes-requires-8 t)
     (nodes-add-put-3 t)
+    (nodes-sub-put-3 t)
     (nodes-put-requires-10 t)
     (nodes-add-result-10 t)
     (nodes-returns-8 t)

@@ -2,7 +2,7 @@
 use mathlib.Core.Path.{refl}
 use native.Mathlib.Omega.{arith}
 use Rattle.rules.proofs.Trees.{first-in, before-in}
-use Rattle.rules_pack.proofs.Laws.{inside, left-count, left-other, left-no-count, left-large, left-rest}
+use Rattle.rules_pack.proofs.Laws.{inside, left-count, left-other, left-no-count, left-rest}
 use borrow.Author.Needs.{needs}
 use Rattle.rules_pack.proofs.left_of.Statement.{statement}
 use Rattle.rules_pack.proofs.left_of.Tie as tie
@@ -45,7 +45,7 @@ enum-told : tie.Need-enum-told
 enum-told c = search needs
 
 returns-4 : tie.Need-returns-4
-returns-4 c = let s : tie.Start = c .before .before .before .before .before .before .before .before .before in left-large (s .pre) (c .before .before .before .before .before .before .if2 .left) (c .before .before .before .before .before .place .ensures) (c .before .before .before .if3 .left) (c .before .before .small-of .ensures) (c .enum-told .given .1)
+returns-4 c = let s : tie.Start = c .before .before .before .before .before .before .before .before .before in left-rest (s .pre) (c .before .before .before .before .before .before .if2 .left) (c .before .before .before .before .before .place .ensures) (c .before .before .before .if3 .left) (c .before .before .small-of .ensures) (c .enum-told .given .1)
 
 returns-5 : tie.Need-returns-5
 returns-5 c = let s : tie.Start = c .before .before .before .before .before .before .before .before .before .before in left-rest (s .pre) (c .before .before .before .before .before .before .before .if2 .left) (c .before .before .before .before .before .before .place .ensures) (c .before .before .before .before .if3 .left) (c .before .before .before .small-of .ensures) (c .before .right .given .1)

@@ -5,8 +5,8 @@ use native.Mathlib.Omega.{arith}
 use denote.Ref.{now}
 use borrow.Author.Needs.{needs}
 use Rattle.rules.specs.Range.{rateTree}
-use Rattle.rules.specs.Pool.{Pool, pool, value, treeOf}
-use Rattle.rules.proofs.Trees.{before-in, first-in, second-in, op-high}
+use Rattle.rules.specs.Pool.{Pool, pool, value, treeOf, ternaryNode}
+use Rattle.rules.proofs.Trees.{before-in, first-in, second-in}
 use Rattle.rules_tree.specs.Promise.{Run}
 use Rattle.rules_tree.proofs.Runs.{low, down-to, leaf-first, leaf-last}
 use Rattle.rules_range.specs.Private.{fromTo}
@@ -79,7 +79,7 @@ above-binary-requires : (t : ℕ) → above-lts.Need-binary-requires (R-above t)
 above-binary-requires t c κs = search needs
 
 above-returns-2 : (t : ℕ) → above-lts.Need-returns-2 (R-above t) (above-at t) above.Post
-above-returns-2 t c = let s : Sa t = c .before .before .before .before .before .before .before .before in record { is = λ g. rate-two (P s) (s .args .at) (before-in (s .pre .1 .0) (s .pre .1 .1)) g (first-in (s .pre .1 .0) (c .before .before .before .before .before .before .if1 .left)) (moved (P s) (c .before .before .before .rate .ensures) (c .before .before .before .before .before .place .ensures)) (c .before .before .before .before .before .before .if1 .left) (c .before .before .if2 .taken) (op-high (s .pre .1 .0) (omega (arith, c .before .before .before .before .before .before .if1 .left)) (c .before .before .if2 .taken)) (c .binary .ensures) }
+above-returns-2 t c = let s : Sa t = c .before .before .before .before .before .before .before .before in record { is = λ g. rate-two (P s) (s .args .at) (before-in (s .pre .1 .0) (s .pre .1 .1)) g (first-in (s .pre .1 .0) (c .before .before .before .before .before .before .if1 .left)) (moved (P s) (c .before .before .before .rate .ensures) (c .before .before .before .before .before .place .ensures)) (c .before .before .before .before .before .before .if1 .left) (c .before .before .if2 .taken) (c .binary .ensures) }
 
 above-ends-requires : (t : ℕ) → above-lts.Need-ends-requires (R-above t) (above-at t) above.Post
 above-ends-requires t c κs = search needs
@@ -112,7 +112,7 @@ above-returns-5 : (t : ℕ) → above-lts.Need-returns-5 (R-above t) (above-at t
 above-returns-5 t c = let s : Sa t = c .before .before .before .before .before .before .before .before .before .before .before .before .before in record { is = λ g. rate-three (P s) (s .args .at) (before-in (s .pre .1 .0) (s .pre .1 .1)) g (first-in (s .pre .1 .0) (c .before .before .before .before .before .before .before .before .before .before .before .if1 .left)) (moved (P s) (c .before .before .before .before .before .before .before .before .rate .ensures) (c .before .before .before .before .before .before .before .before .before .before .place .ensures)) (c .before .before .before .before .before .if4 .left) (second-in (s .pre .1 .0) (c .before .before .before .before .before .if4 .left)) (moved (P s) (c .before .before .rate2 .ensures) (c .before .before .before .before .place2 .ensures)) (c .either2 .ensures ∙ sym (any-condition _ _ _ _ (c .before .before .before .before .before .before .if3 .left))) }
 
 abbrev rate-Inv-loop : rate-lts.InvT-loop
-rate-Inv-loop codes places values at high₀ p₀ low₀ high p low = Run codes at 128 p × (fromTo low high ≡ rateTree (treeOf (pool codes places values) p))
+rate-Inv-loop codes places values at high₀ p₀ low₀ high p low = Run codes at (ternaryNode + 1) p × (fromTo low high ≡ rateTree (treeOf (pool codes places values) p))
 
 abbrev rate-μ-loop : rate-lts.MeasureT-loop
 rate-μ-loop codes places values at high₀ p₀ low₀ high p low = at - p
@@ -133,7 +133,7 @@ rate-add-p : (t : ℕ) → rate-lts.Need-add-p (R-rate t) (rate-at t) rate.Post 
 rate-add-p t c = search needs
 
 rate-above-requires : (t : ℕ) → rate-lts.Need-above-requires (R-rate t) (rate-at t) rate.Post rate-Inv-loop rate-μ-loop
-rate-above-requires t c κs = let s : Sr t = c .before .before .before .before .before .before in (omega (arith, s .pre .0, c .before .before .loop .inv .0 .below), (down-to (s .pre .1) (omega arith), low _ 128 (c .before .before .loop .inv .0 .all _ (omega arith) (omega arith))))
+rate-above-requires t c κs = let s : Sr t = c .before .before .before .before .before .before in (omega (arith, s .pre .0, c .before .before .loop .inv .0 .below), (down-to (s .pre .1) (omega arith), low _ (ternaryNode + 1) (c .before .before .loop .inv .0 .all _ (omega arith) (omega arith))))
 
 rate-loop-less : (t : ℕ) → rate-lts.Need-loop-less (R-rate t) (rate-at t) rate.Post rate-Inv-loop rate-μ-loop
 rate-loop-less t c = search needs

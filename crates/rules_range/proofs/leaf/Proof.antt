@@ -3,7 +3,6 @@ use mathlib.Core.Path.{refl, _∙_}
 use native.Mathlib.Omega.{arith}
 use denote.Ref.{now}
 use Rattle.rules.specs.Pool.{Pool, pool, code, value}
-use Rattle.rules.proofs.Trees.{op-low}
 use Rattle.rules_range.proofs.Ranges.{range-of, ends-of, rate-count, rate-int, rate-op, rate-rest}
 use borrow.Author.Needs.{needs}
 use Rattle.rules_range.proofs.leaf.Statement.{statement}
@@ -40,7 +39,7 @@ binary-requires : tie.Need-binary-requires
 binary-requires c κs = search needs
 
 returns-3 : tie.Need-returns-3
-returns-3 c = let s : tie.Start = c .before .before .before .before .before .before .before in rate-op (P s) (s .args .at) (range-of (value (P s) (s .args .at)) (value (P s) (s .args .at)) (omega arith)) (c .before .before .before .if2 .left) (c .before .before .if3 .taken) (op-low (s .pre .0) (c .before .before .before .if2 .left) (s .pre .1)) (c .binary .ensures)
+returns-3 c = let s : tie.Start = c .before .before .before .before .before .before .before in rate-op (P s) (s .args .at) (range-of (value (P s) (s .args .at)) (value (P s) (s .args .at)) (omega arith)) (c .before .before .before .if2 .left) (c .before .before .if3 .taken) (c .binary .ensures)
 
 small-requires : tie.Need-small-requires
 small-requires c κs = search needs
@@ -52,7 +51,7 @@ binary-requires-2 : tie.Need-binary-requires-2
 binary-requires-2 c κs = search needs
 
 returns-4 : tie.Need-returns-4
-returns-4 c = let s : tie.Start = c .before .before .before .before .before .before .before .before .before .before in rate-rest (P s) (s .args .at) (range-of (value (P s) (s .args .at)) (value (P s) (s .args .at)) (omega arith)) (c .before .before .before .before .before .if3 .left) (s .pre .1) (op-low (s .pre .0) (c .before .before .before .before .before .before .if2 .left) (s .pre .1)) (c .before .before .before .before .small .ensures) (c .before .before .rest .ensures) (c .binary2 .ensures)
+returns-4 c = let s : tie.Start = c .before .before .before .before .before .before .before .before .before .before in rate-rest (P s) (s .args .at) (range-of (value (P s) (s .args .at)) (value (P s) (s .args .at)) (omega arith)) (c .before .before .before .before .before .if3 .left) (s .pre .1) (c .before .before .before .before .small .ensures) (c .before .before .rest .ensures) (c .binary2 .ensures)
 
 pub leaf-spec : {M : Type 1} → statement M
 leaf-spec =

@@ -1,11 +1,10 @@
 -- `rules_range::one` meets its contract: each return is the range of the tree that the tests before it leave.
-use Prim.Native.Nat.{_-_, _<_, _%_}
+use Prim.Native.Nat.{_-_, _<_}
 use mathlib.Core.Path.{refl, sym, _∙_}
-use Rattle.rules.specs.Operator.{Named}
 use native.Mathlib.Omega.{arith}
 use denote.Ref.{now}
 use Rattle.rules.specs.Pool.{Pool, pool, code, value}
-use Rattle.rules.proofs.Trees.{before-in, op-high}
+use Rattle.rules.proofs.Trees.{before-in}
 use Rattle.rules_range.proofs.Ranges.{range-of, any-condition, none-of, nay-of, picked-of, rate-none, rate-nay, rate-picked, rate-one}
 use borrow.Author.Needs.{needs}
 use Rattle.rules_range.proofs.one.Statement.{statement}
@@ -23,11 +22,8 @@ P s = pool (now (s .args .codes)) (now (s .args .places)) (now (s .args .values)
 lower : (s : tie.Start) → s .args .at - 1 < s .args .at
 lower s = before-in (s .pre .0) (s .pre .1 .0)
 
-named : (s : tie.Start) → 63 < code (P s) (s .args .at) → Named (code (P s) (s .args .at) % 16)
-named s h = op-high (s .pre .0) h (omega (arith, s .pre .1 .1))
-
 returns : tie.Need-returns
-returns c = let s : tie.Start = c .before .before in record { is = λ g. rate-none (P s) (s .args .at) (lower s) g (s .pre .1 .0) (s .pre .1 .1) (named s) (none-of (s .args .low) (now (s .args .high)) (c .if1 .taken)) }
+returns c = let s : tie.Start = c .before .before in record { is = λ g. rate-none (P s) (s .args .at) (lower s) g (s .pre .1 .0) (s .pre .1 .1) (none-of (s .args .low) (now (s .args .high)) (c .if1 .taken)) }
 
 element-copy-out-code : tie.Need-element-copy-out-code
 element-copy-out-code c = search needs
@@ -57,7 +53,7 @@ binary-requires : tie.Need-binary-requires
 binary-requires c κs = search needs
 
 returns-4 : tie.Need-returns-4
-returns-4 c = let s : tie.Start = c .before .before .before .before .before .before .before .before in record { is = λ g. rate-one (P s) (s .args .at) (lower s) g (c .before .before .if3 .left) (s .pre .1 .1) (named s (c .before .before .if3 .left)) (range-of (value (P s) (s .args .at)) (value (P s) (s .args .at)) (omega arith)) (c .binary .ensures) }
+returns-4 c = let s : tie.Start = c .before .before .before .before .before .before .before .before in record { is = λ g. rate-one (P s) (s .args .at) (lower s) g (c .before .before .if3 .left) (s .pre .1 .1) (range-of (value (P s) (s .args .at)) (value (P s) (s .args .at)) (omega arith)) (c .binary .ensures) }
 
 pub one-spec : {M : Type 1} → statement M
 one-spec =

@@ -3,8 +3,9 @@
 use native.Mathlib.Omega.{arith}
 use denote.Ref.{now}
 use borrow.Author.Needs.{needs}
-use Rattle.rules.specs.Pool.{Pool, pool}
-use Rattle.rules.proofs.Trees.{first-in, second-in, op-high}
+use Rattle.rules.specs.Pool.{Pool, pool, ternaryNode}
+use Rattle.rules.proofs.Operators.{named}
+use Rattle.rules.proofs.Trees.{first-in, second-in}
 use Rattle.rules_tree.proofs.Runs.{low, down-to, leaf-first}
 use Rattle.rules_text.proofs.Texts.{head-not, head-first, head-sign, head-value, head-node}
 use Rattle.rules_text.proofs.Heads.{PutsHeads, room, no-heads-put, head-put, leaf-put, Grows, no-growth, growth, whole-put, at-leaf, falls-to}
@@ -81,7 +82,7 @@ put-head-put-node-requires : (t : ℕ) → put-head-lts.Need-put-node-requires (
 put-head-put-node-requires t c κs = let s : Sh t = c .before .before .before .before .before .before .before in let d = falls-to (s .pre .1 .0) (s .pre .0) (first-in (s .pre .1 .0) (c .before .before .if2 .left)) (c .before .place .ensures) in (d .0, (d .1, room (c .before .before .before .before .put-byte .ensures)))
 
 put-head-put-sign-requires : (t : ℕ) → put-head-lts.Need-put-sign-requires (R-put-head t) (put-head-at t) put-head.Post
-put-head-put-sign-requires t c κs = let s : Sh t = c .before .before .before .before .before .before .before .before .before .before in op-high (s .pre .1 .0) (omega (arith, c .before .before .before .before .before .if2 .left)) (c .before .if3 .taken)
+put-head-put-sign-requires t c κs = named _ (omega arith)
 
 put-head-returns-3 : (t : ℕ) → put-head-lts.Need-returns-3 (R-put-head t) (put-head-at t) put-head.Post
 put-head-returns-3 t c = let s : Sh t = c .before .before .before .before .before .before .before .before .before .before .before in head-sign (P s) (s .args .p) (c .before .before .before .before .before .before .before .before .put-byte .ensures) (c .before .before .before .before .before .before .if2 .left) (c .before .before .before .before .before .place .ensures) (c .before .before .before .put-node .ensures) (c .before .before .if3 .taken) (c .put-sign .ensures)
@@ -141,7 +142,7 @@ put-node-loop-holds : (t : ℕ) → put-node-lts.Need-loop-holds (R-put-node t) 
 put-node-loop-holds t c = let s : Sn t = c .before in (c .base .ensures .run .below, omega arith, no-heads-put (Pn s) (s .args .p) (s .pre .1 .1))
 
 put-node-put-head-requires : (t : ℕ) → put-node-lts.Need-put-head-requires (R-put-node t) (put-node-at t) put-node.Post put-node-Inv-loop put-node-μ-loop put-node-Inv-loop2 put-node-μ-loop2
-put-node-put-head-requires t c κs = let s : Sn t = c .before .before .before .before in (omega (arith, s .pre .0), (down-to (s .pre .1 .0) (c .before .before .loop .inv .1), (low _ 128 (c .before .before .before .base .ensures .run .all _ (omega arith) (c .before .before .loop .inv .1)), room (c .before .before .loop .inv .2 .text))))
+put-node-put-head-requires t c κs = let s : Sn t = c .before .before .before .before in (omega (arith, s .pre .0), (down-to (s .pre .1 .0) (c .before .before .loop .inv .1), (low _ (ternaryNode + 1) (c .before .before .before .base .ensures .run .all _ (omega arith) (c .before .before .loop .inv .1)), room (c .before .before .loop .inv .2 .text))))
 
 put-node-sub-q : (t : ℕ) → put-node-lts.Need-sub-q (R-put-node t) (put-node-at t) put-node.Post put-node-Inv-loop put-node-μ-loop put-node-Inv-loop2 put-node-μ-loop2
 put-node-sub-q t c = search needs
@@ -162,13 +163,13 @@ put-node-add-q : (t : ℕ) → put-node-lts.Need-add-q (R-put-node t) (put-node-
 put-node-add-q t c = search needs
 
 put-node-put-tail-requires : (t : ℕ) → put-node-lts.Need-put-tail-requires (R-put-node t) (put-node-at t) put-node.Post put-node-Inv-loop put-node-μ-loop put-node-Inv-loop2 put-node-μ-loop2
-put-node-put-tail-requires t c κs = let s : Sn t = c .before .before .before .before .before .before .before .before in (down-to (s .pre .1 .0) (omega arith), low _ 128 (c .before .before .before .before .before .before .before .base .ensures .run .all _ (omega (arith, c .before .before .loop2 .inv .0)) (omega arith)))
+put-node-put-tail-requires t c κs = let s : Sn t = c .before .before .before .before .before .before .before .before in (down-to (s .pre .1 .0) (omega arith), low _ (ternaryNode + 1) (c .before .before .before .before .before .before .before .base .ensures .run .all _ (omega (arith, c .before .before .loop2 .inv .0)) (omega arith)))
 
 put-node-loop2-less : (t : ℕ) → put-node-lts.Need-loop2-less (R-put-node t) (put-node-at t) put-node.Post put-node-Inv-loop put-node-μ-loop put-node-Inv-loop2 put-node-μ-loop2
 put-node-loop2-less t c = search needs
 
 put-node-loop2-again : (t : ℕ) → put-node-lts.Need-loop2-again (R-put-node t) (put-node-at t) put-node.Post put-node-Inv-loop put-node-μ-loop put-node-Inv-loop2 put-node-μ-loop2
-put-node-loop2-again t c = let s : Sn t = c .before .before .before .before .before .before .before .before .before in (omega (arith, c .before .before .before .loop2 .inv .0), omega arith, growth (Pn s) (s .args .p) (s .pre .1 .0) (omega arith) (low _ 128 (c .before .before .before .before .before .before .before .before .base .ensures .run .all _ (omega (arith, c .before .before .before .loop2 .inv .0)) (omega arith))) (c .before .before .before .loop2 .inv .2) (c .put-tail .ensures))
+put-node-loop2-again t c = let s : Sn t = c .before .before .before .before .before .before .before .before .before in (omega (arith, c .before .before .before .loop2 .inv .0), omega arith, growth (Pn s) (s .args .p) (s .pre .1 .0) (omega arith) (low _ (ternaryNode + 1) (c .before .before .before .before .before .before .before .before .base .ensures .run .all _ (omega (arith, c .before .before .before .loop2 .inv .0)) (omega arith))) (c .before .before .before .loop2 .inv .2) (c .put-tail .ensures))
 
 put-node-returns : (t : ℕ) → put-node-lts.Need-returns (R-put-node t) (put-node-at t) put-node.Post put-node-Inv-loop put-node-μ-loop put-node-Inv-loop2 put-node-μ-loop2
 put-node-returns t c = let s : Sn t = c .before .before .before .before .before .before .before in whole-put (Pn s) (s .args .p) (c .before .loop2 .inv .1) (omega arith) (c .before .loop2 .inv .2 .is _ _ (leaf-put (Pn s) (s .args .p) (c .before .before .before .before .before .loop .inv .2) (c .before .before .put-leaf .ensures)))

@@ -2,7 +2,7 @@
 use native.Mathlib.Omega.{arith}
 use denote.Ref.{now}
 use Rattle.rules.specs.Pool.{Pool, pool}
-use Rattle.rules.proofs.Trees.{op-low}
+use Rattle.rules.proofs.Operators.{named}
 use Rattle.rules_text.proofs.Nodes.{n-op, rest-op}
 use Rattle.rules_text.proofs.Texts.{put-count, put-integer, put-n, put-rest, put-binary}
 use borrow.Author.Needs.{needs}
@@ -47,10 +47,10 @@ put-byte-requires-3 : tie.Need-put-byte-requires-3
 put-byte-requires-3 c κs = search needs
 
 put-value-requires : tie.Need-put-value-requires
-put-value-requires c κs = let s : tie.Start = c .before .before .before .before .before .before .before .before .before .before in op-low (s .pre .0) (omega (arith, c .before .before .before .before .before .before .if2 .left)) (s .pre .1)
+put-value-requires c κs = named _ (omega arith)
 
 returns-3 : tie.Need-returns-3
-returns-3 c = let s : tie.Start = c .before .before .before .before .before .before .before .before .before .before .before in put-binary (P s) (s .args .p) (n-op (s .pre .0) (c .before .before .before .before .before .before .before .if2 .left) (c .before .before .before .before .if3 .taken)) (c .before .before .before .before .before .put-byte2 .ensures) (put-n (c .before .before .put-byte3 .ensures)) (c .put-value .ensures)
+returns-3 c = let s : tie.Start = c .before .before .before .before .before .before .before .before .before .before .before in put-binary (P s) (s .args .p) (n-op (P s) (s .args .p) (c .before .before .before .before .before .before .before .if2 .left) (c .before .before .before .before .if3 .taken)) (c .before .before .before .before .before .put-byte2 .ensures) (put-n (c .before .before .put-byte3 .ensures)) (c .put-value .ensures)
 
 field-requires : tie.Need-field-requires
 field-requires c κs = search needs
@@ -62,10 +62,10 @@ put-rest-requires : tie.Need-put-rest-requires
 put-rest-requires c κs = search needs
 
 put-value-requires-2 : tie.Need-put-value-requires-2
-put-value-requires-2 c κs = let s : tie.Start = c .before .before .before .before .before .before .before .before .before .before .before in op-low (s .pre .0) (omega (arith, c .before .before .before .before .before .before .before .if2 .left)) (s .pre .1)
+put-value-requires-2 c κs = named _ (omega arith)
 
 returns-4 : tie.Need-returns-4
-returns-4 c = let s : tie.Start = c .before .before .before .before .before .before .before .before .before .before .before .before in put-binary (P s) (s .args .p) (rest-op (s .pre .0) (c .before .before .before .before .before .if3 .left) (s .pre .1)) (c .before .before .before .before .before .before .put-byte2 .ensures) (put-rest (c .before .before .before .field .ensures) (c .before .before .put-rest .ensures)) (c .put-value2 .ensures)
+returns-4 c = let s : tie.Start = c .before .before .before .before .before .before .before .before .before .before .before .before in put-binary (P s) (s .args .p) (rest-op (P s) (s .args .p) (c .before .before .before .before .before .if3 .left) (s .pre .1)) (c .before .before .before .before .before .before .put-byte2 .ensures) (put-rest (c .before .before .before .field .ensures) (c .before .before .put-rest .ensures)) (c .put-value2 .ensures)
 
 pub put-leaf-spec : {M : Type 1} → statement M
 put-leaf-spec =

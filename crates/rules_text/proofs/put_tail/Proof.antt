@@ -2,7 +2,7 @@
 use native.Mathlib.Omega.{arith}
 use denote.Ref.{now}
 use Rattle.rules.specs.Pool.{Pool, pool}
-use Rattle.rules.proofs.Trees.{op-high}
+use Rattle.rules.proofs.Operators.{named}
 use Rattle.rules_text.proofs.Texts.{tail-not, tail-pick, tail-value, tail-last}
 use borrow.Author.Needs.{needs}
 use Rattle.rules_text.proofs.put_tail.Statement.{statement}
@@ -63,7 +63,7 @@ element-copy-out-put-value : tie.Need-element-copy-out-put-value
 element-copy-out-put-value c = search needs
 
 put-value-requires : tie.Need-put-value-requires
-put-value-requires c κs = let s : tie.Start = c .before .before .before .before .before .before in op-high (s .pre .0) (c .before .before .before .if2 .left) (omega (arith, c .before .before .if3 .taken))
+put-value-requires c κs = named _ (omega arith)
 
 returns-3 : tie.Need-returns-3
 returns-3 c = let s : tie.Start = c .before .before .before .before .before .before .before in tail-value (P s) (s .args .p) (c .before .before .before .before .if2 .left) (c .before .before .before .if3 .taken) (c .put-value .ensures)

@@ -1,7 +1,6 @@
--- `rules_tree::is_node` meets its contract: a known code comes first; then the place before and the operands in the fields that the code uses
--- are taken one after the other, and each return is the answer at those that were.
-use mathlib.Core.Path.{_≡_, sym, _∙_}
-use mathlib.Core.Bool.{true}
+-- `rules_tree::is_node` meets its contract: the place before and the operands in the fields that the code uses are taken one after the other,
+-- and each return is the answer at those that were. Past the last code that is known there is none.
+use mathlib.Core.Path.{_≡_, _∙_}
 use mathlib.Core.List.{[]}
 use Prim.Native.Nat.{_-_}
 use lib.ListN.{length, set, length-set}
@@ -15,7 +14,6 @@ use Rattle.rules_tree.proofs.is_node.Statement.{statement}
 use Rattle.rules_tree.proofs.is_node.Tie as tie
 use Rattle.rules_tree.proofs.is_node.Reads as reads
 use Rattle.rules_tree.proofs.is_node.Lts as lts
-use Rattle.rules_tree.proofs.is_known.Reads as is-known-reads
 use Rattle.rules_tree.proofs.takes.Reads as takes-reads
 
 abbrev P : tie.Start → Pool
@@ -31,17 +29,11 @@ at-before s h = before-taken (P s) (s .args .p) (omega arith) (s .pre .0 .1) (s 
 element-copy-out-code : tie.Need-element-copy-out-code
 element-copy-out-code c = search needs
 
-is-known-requires : tie.Need-is-known-requires
-is-known-requires c κs = search needs
-
 returns : tie.Need-returns
-returns c = let s : tie.Start = c .before .before .before .before in unknown (P s) (s .args .p) (sym (c .before .is-known .ensures) ∙ not-true _ (c .if1 .taken))
+returns c = let s : tie.Start = c .before .before .before in leaf (P s) (s .args .p) (c .if1 .taken) (s .pre .1 .1)
 
 returns-2 : tie.Need-returns-2
-returns-2 c = let s : tie.Start = c .before .before .before .before .before in leaf (P s) (s .args .p) (sym (c .before .before .is-known .ensures) ∙ not-false _ (c .before .if1 .left)) (c .if2 .taken) (s .pre .1 .1)
-
-returns-3 : tie.Need-returns-3
-returns-3 c = let s : tie.Start = c .before .before .before .before .before .before in first (P s) (s .args .p) (c .if3 .taken) (c .before .if2 .left)
+returns-2 c = let s : tie.Start = c .before .before .before .before in first (P s) (s .args .p) (c .if2 .taken) (c .before .if1 .left)
 
 sub-marks : tie.Need-sub-marks
 sub-marks c = search needs
@@ -52,51 +44,57 @@ slice-write-marks c = search needs
 same-length : tie.Need-same-length
 same-length c = search needs
 
-returns-4 : tie.Need-returns-4
-returns-4 c = let s : tie.Start = c .before .before .before .before .before .before .before in one-operand (P s) (s .args .p) (sym (c .before .before .before .before .is-known .ensures) ∙ not-false _ (c .before .before .before .if1 .left)) (c .before .before .if2 .left) (c .if4 .taken) (at-before s (c .before .if3 .left))
+returns-3 : tie.Need-returns-3
+returns-3 c = let s : tie.Start = c .before .before .before .before .before in one-operand (P s) (s .args .p) (c .before .before .if1 .left) (c .if3 .taken) (at-before s (c .before .if2 .left))
 
 takes-requires : tie.Need-takes-requires
 takes-requires c κs = search needs
 
 same-length-2 : tie.Need-same-length-2
-same-length-2 c = let s : tie.Start = c .before .before .before .before .before .before .before .before .before .before .before .before in c .before .before .before .takes .kept .1 .0 ∙ marked-long s
+same-length-2 c = let s : tie.Start = c .before .before .before .before .before .before .before .before .before .before in c .before .before .before .takes .kept .1 .0 ∙ marked-long s
 
-returns-5 : tie.Need-returns-5
-returns-5 c = let s : tie.Start = c .before .before .before .before .before .before .before .before .before .before .before .before in refused (P s) (s .args .p) 0 (c .before .before .before .before .before .before .before .if2 .left) (some-fields (P s) (s .args .p) (c .before .before .before .before .before .if4 .left)) (at-before s (c .before .before .before .before .before .before .if3 .left)) (c .before .before .before .takes .ensures) (not-true _ (c .if5 .taken))
+returns-4 : tie.Need-returns-4
+returns-4 c = let s : tie.Start = c .before .before .before .before .before .before .before .before .before .before in refused (P s) (s .args .p) 0 (c .before .before .before .before .before .before .before .if1 .left) (some-fields (P s) (s .args .p) (c .before .before .before .before .before .if3 .left)) (at-before s (c .before .before .before .before .before .before .if2 .left)) (c .before .before .before .takes .ensures) (not-true _ (c .if4 .taken))
 
 same-length-3 : tie.Need-same-length-3
-same-length-3 c = let s : tie.Start = c .before .before .before .before .before .before .before .before .before .before .before .before .before in c .before .before .before .before .takes .kept .1 .0 ∙ marked-long s
+same-length-3 c = let s : tie.Start = c .before .before .before .before .before .before .before .before .before .before .before in c .before .before .before .before .takes .kept .1 .0 ∙ marked-long s
 
-returns-6 : tie.Need-returns-6
-returns-6 c = let s : tie.Start = c .before .before .before .before .before .before .before .before .before .before .before .before .before in two-operands (P s) (s .args .p) (sym (c .before .before .before .before .before .before .before .before .before .before .is-known .ensures) ∙ not-false _ (c .before .before .before .before .before .before .before .before .before .if1 .left)) (c .before .before .before .before .before .before .if4 .left) (c .if6 .taken) (one-more (P s) (s .args .p) 0 (at-before s (c .before .before .before .before .before .before .before .if3 .left)) (c .before .before .before .before .takes .ensures) (not-false _ (c .before .if5 .left)))
-
-takes-requires-2 : tie.Need-takes-requires-2
-takes-requires-2 c κs = let s : tie.Start = c .before .before .before .before .before .before .before .before .before .before .before .before .before .before in (omega arith, omega arith, omega (arith, c .before .before .before .before .before .takes .kept .1 .0, marked-long s, s .pre .0 .1))
+returns-5 : tie.Need-returns-5
+returns-5 c = let s : tie.Start = c .before .before .before .before .before .before .before .before .before .before .before in two-operands (P s) (s .args .p) (c .before .before .before .before .before .before .if3 .left) (c .if5 .taken) (one-more (P s) (s .args .p) 0 (at-before s (c .before .before .before .before .before .before .before .if2 .left)) (c .before .before .before .before .takes .ensures) (not-false _ (c .before .if4 .left)))
 
 same-length-4 : tie.Need-same-length-4
-same-length-4 c = let s : tie.Start = c .before .before .before .before .before .before .before .before .before .before .before .before .before .before .before .before .before in c .before .before .takes2 .kept .1 .0 ∙ c .before .before .before .before .before .before .before .before .takes .kept .1 .0 ∙ marked-long s
+same-length-4 c = let s : tie.Start = c .before .before .before .before .before .before .before .before .before .before .before .before in c .before .before .before .before .before .takes .kept .1 .0 ∙ marked-long s
+
+returns-6 : tie.Need-returns-6
+returns-6 c = let s : tie.Start = c .before .before .before .before .before .before .before .before .before .before .before .before in unknown (P s) (s .args .p) (omega (arith, c .before .if5 .left, c .if6 .taken))
+
+takes-requires-2 : tie.Need-takes-requires-2
+takes-requires-2 c κs = let s : tie.Start = c .before .before .before .before .before .before .before .before .before .before .before .before .before in (omega arith, omega arith, omega (arith, c .before .before .before .before .before .before .takes .kept .1 .0, marked-long s, s .pre .0 .1))
+
+same-length-5 : tie.Need-same-length-5
+same-length-5 c = let s : tie.Start = c .before .before .before .before .before .before .before .before .before .before .before .before .before .before .before .before in c .before .before .takes2 .kept .1 .0 ∙ c .before .before .before .before .before .before .before .before .before .takes .kept .1 .0 ∙ marked-long s
 
 returns-7 : tie.Need-returns-7
-returns-7 c = let s : tie.Start = c .before .before .before .before .before .before .before .before .before .before .before .before .before .before .before .before .before in third-decides (P s) (s .args .p) _ (sym (c .before .before .before .before .before .before .before .before .before .before .before .before .before .before .is-known .ensures) ∙ not-false _ (c .before .before .before .before .before .before .before .before .before .before .before .before .before .if1 .left)) (c .before .before .before .before .if6 .left) (one-more (P s) (s .args .p) 0 (at-before s (c .before .before .before .before .before .before .before .before .before .before .before .if3 .left)) (c .before .before .before .before .before .before .before .before .takes .ensures) (not-false _ (c .before .before .before .before .before .if5 .left))) (c .before .before .takes2 .ensures)
+returns-7 c = let s : tie.Start = c .before .before .before .before .before .before .before .before .before .before .before .before .before .before .before .before in third-decides (P s) (s .args .p) _ (c .before .before .before .before .if6 .left) (one-more (P s) (s .args .p) 0 (at-before s (c .before .before .before .before .before .before .before .before .before .before .before .before .if2 .left)) (c .before .before .before .before .before .before .before .before .before .takes .ensures) (not-false _ (c .before .before .before .before .before .before .if4 .left))) (c .before .before .takes2 .ensures)
 
 pub is-node-spec : {M : Type 1} → statement M
 is-node-spec =
     tie.close
     (tie.spec
     element-copy-out-code
-    is-known-requires
     returns
     returns-2
-    returns-3
     sub-marks
     slice-write-marks
     same-length
-    returns-4
+    returns-3
     takes-requires
     same-length-2
-    returns-5
+    returns-4
     same-length-3
+    returns-5
+    same-length-4
     returns-6
     takes-requires-2
-    same-length-4
+    same-length-5
     returns-7)

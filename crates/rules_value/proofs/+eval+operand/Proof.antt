@@ -5,7 +5,8 @@ use native.Mathlib.Omega.{arith}
 use denote.Ref.{now}
 use borrow.Author.Needs.{needs}
 use Rattle.rules.specs.Pool.{Pool, pool}
-use Rattle.rules.proofs.Trees.{before-in, first-in, second-in, op-high}
+use Rattle.rules.proofs.Operators.{named}
+use Rattle.rules.proofs.Trees.{before-in, first-in, second-in}
 use Rattle.rules_tree.proofs.Runs.{leaf-first}
 use Rattle.rules_value.proofs.Values.{inside, falls-to, lower, topped, moved, at-no, at-chosen, at-yes, at-settled, at-both}
 use Prim.Native.Nat.{ℕ, _<_, _+_, _*_}
@@ -120,10 +121,10 @@ eval-settles-requires : (t : ℕ) → eval-lts.Need-settles-requires (R-eval t) 
 eval-settles-requires t c κs = search needs
 
 eval-apply-requires : (t : ℕ) → eval-lts.Need-apply-requires (R-eval t) (eval-at t) eval.Post
-eval-apply-requires t c κs = let s : St t = c .before .before .before .before .before .before .before .before .before .before in op-high (s .pre .1) (omega (arith, c .before .before .before .before .before .before .before .if2 .left)) (c .before .before .before .if3 .left)
+eval-apply-requires t c κs = named _ (omega arith)
 
 eval-returns-6 : (t : ℕ) → eval-lts.Need-returns-6 (R-eval t) (eval-at t) eval.Post
-eval-returns-6 t c = let s : St t = c .before .before .before .before .before .before .before .before .before .before .before in at-settled (P s) (s .args .at) (s .args .n) (before-in (s .pre .1) (c .before .before .before .before .before .before .before .before .before .if1 .left)) (first-in (s .pre .1) (c .before .before .before .before .before .before .before .before .if2 .left)) (moved (P s) _ (s .args .n) (c .before .before .before .before .before .operand2 .ensures) (c .before .before .before .before .before .before .before .place .ensures)) (c .before .before .before .before .before .before .before .before .if2 .left) (c .before .before .before .before .if3 .left) (op-high (s .pre .1) (omega (arith, c .before .before .before .before .before .before .before .before .if2 .left)) (c .before .before .before .before .if3 .left)) (c .before .before .before .settles .ensures) (c .before .before .if6 .taken) (c .apply .ensures)
+eval-returns-6 t c = let s : St t = c .before .before .before .before .before .before .before .before .before .before .before in at-settled (P s) (s .args .at) (s .args .n) (before-in (s .pre .1) (c .before .before .before .before .before .before .before .before .before .if1 .left)) (first-in (s .pre .1) (c .before .before .before .before .before .before .before .before .if2 .left)) (moved (P s) _ (s .args .n) (c .before .before .before .before .before .operand2 .ensures) (c .before .before .before .before .before .before .before .place .ensures)) (c .before .before .before .before .before .before .before .before .if2 .left) (c .before .before .before .before .if3 .left) (c .before .before .before .settles .ensures) (c .before .before .if6 .taken) (c .apply .ensures)
 
 eval-sub-eval-2 : (t : ℕ) → eval-lts.Need-sub-eval-2 (R-eval t) (eval-at t) eval.Post
 eval-sub-eval-2 t c = let s : St t = c .before .before .before .before .before .before .before .before .before in omega (arith, before-in (s .pre .1) (c .before .before .before .before .before .before .before .if1 .left))
@@ -132,10 +133,10 @@ eval-eval-requires-3 : (t : ℕ) → eval-lts.Need-eval-requires-3 (R-eval t) (e
 eval-eval-requires-3 t c κs = let s : St t = c .before .before .before .before .before .before .before .before .before .before in lower (falls-to (s .pre .1) (s .pre .0) (before-in (s .pre .1) (c .before .before .before .before .before .before .before .before .if1 .left)) refl)
 
 eval-apply-requires-2 : (t : ℕ) → eval-lts.Need-apply-requires-2 (R-eval t) (eval-at t) eval.Post
-eval-apply-requires-2 t c κs = let s : St t = c .before .before .before .before .before .before .before .before .before .before .before .before in op-high (s .pre .1) (omega (arith, c .before .before .before .before .before .before .before .before .before .if2 .left)) (c .before .before .before .before .before .if3 .left)
+eval-apply-requires-2 t c κs = named _ (omega arith)
 
 eval-returns-7 : (t : ℕ) → eval-lts.Need-returns-7 (R-eval t) (eval-at t) eval.Post
-eval-returns-7 t c = let s : St t = c .before .before .before .before .before .before .before .before .before .before .before .before .before in at-both (P s) (s .args .at) (s .args .n) (before-in (s .pre .1) (c .before .before .before .before .before .before .before .before .before .before .before .if1 .left)) (first-in (s .pre .1) (c .before .before .before .before .before .before .before .before .before .before .if2 .left)) (moved (P s) _ (s .args .n) (c .before .before .before .before .before .before .before .operand2 .ensures) (c .before .before .before .before .before .before .before .before .before .place .ensures)) (c .before .before .before .before .before .before .before .before .before .before .if2 .left) (c .before .before .before .before .before .before .if3 .left) (op-high (s .pre .1) (omega (arith, c .before .before .before .before .before .before .before .before .before .before .if2 .left)) (c .before .before .before .before .before .before .if3 .left)) (c .before .before .before .before .before .settles .ensures) (c .before .before .before .before .if6 .left) (c .before .before .eval3 .ensures) (c .apply2 .ensures)
+eval-returns-7 t c = let s : St t = c .before .before .before .before .before .before .before .before .before .before .before .before .before in at-both (P s) (s .args .at) (s .args .n) (before-in (s .pre .1) (c .before .before .before .before .before .before .before .before .before .before .before .if1 .left)) (first-in (s .pre .1) (c .before .before .before .before .before .before .before .before .before .before .if2 .left)) (moved (P s) _ (s .args .n) (c .before .before .before .before .before .before .before .operand2 .ensures) (c .before .before .before .before .before .before .before .before .before .place .ensures)) (c .before .before .before .before .before .before .before .before .before .before .if2 .left) (c .before .before .before .before .before .before .if3 .left) (c .before .before .before .before .before .settles .ensures) (c .before .before .before .before .if6 .left) (c .before .before .eval3 .ensures) (c .apply2 .ensures)
 
 operand-element-copy-out-if1 : (t : ℕ) → operand-lts.Need-element-copy-out-if1 (R-operand t) (operand-at t) operand.Post
 operand-element-copy-out-if1 t c = let s : So t = c in inside (s .pre .1)

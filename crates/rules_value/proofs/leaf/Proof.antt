@@ -1,12 +1,9 @@
 -- `rules_value::leaf` meets its contract: each return is the value of the tree that the tests before it leave.
 use mathlib.Core.Path.{refl}
-use mathlib.Core.Option.{some}
 use native.Mathlib.Omega.{arith}
 use denote.Ref.{now}
-use Rattle.rules.specs.Tree.{rem}
-use Rattle.rules.specs.Operator.{opOf, opAt}
 use Rattle.rules.specs.Pool.{Pool, pool}
-use Rattle.rules.proofs.Trees.{op-low}
+use Rattle.rules.proofs.Operators.{named}
 use Rattle.rules_value.proofs.Values.{at-count, at-int, at-op, at-rest, inside}
 use borrow.Author.Needs.{needs}
 use Rattle.rules_value.proofs.leaf.Statement.{statement}
@@ -35,23 +32,22 @@ returns-2 : tie.Need-returns-2
 returns-2 c = let s : tie.Start = c .before .before .before .before in at-int (P s) (s .args .at) (s .args .n) (c .before .before .if1 .left) (c .if2 .taken) refl
 
 apply-requires : tie.Need-apply-requires
-apply-requires c κs = let s : tie.Start = c .before .before .before .before .before .before in op-low (s .pre .0) (c .before .before .if2 .left) (s .pre .1)
+apply-requires c κs = named _ (omega arith)
 
 returns-3 : tie.Need-returns-3
-returns-3 c = let s : tie.Start = c .before .before .before .before .before .before .before in at-op (P s) (s .args .at) (s .args .n) (c .before .before .before .if2 .left) (c .before .before .if3 .taken) (op-low (s .pre .0) (c .before .before .before .if2 .left) (s .pre .1)) (c .apply .ensures)
+returns-3 c = let s : tie.Start = c .before .before .before .before .before .before .before in at-op (P s) (s .args .at) (s .args .n) (c .before .before .before .if2 .left) (c .before .before .if3 .taken) (c .apply .ensures)
 
 small-requires : tie.Need-small-requires
 small-requires c κs = search needs
 
 apply-requires-2 : tie.Need-apply-requires-2
-unfolding opOf opAt
-apply-requires-2 c κs = record { op = rem; is = refl }
+apply-requires-2 c κs = named _ (omega arith)
 
 apply-requires-3 : tie.Need-apply-requires-3
-apply-requires-3 c κs = let s : tie.Start = c .before .before .before .before .before .before .before .before .before in op-low (s .pre .0) (c .before .before .before .before .before .if2 .left) (s .pre .1)
+apply-requires-3 c κs = let s : tie.Start = c .before .before .before .before .before .before .before .before .before in named _ (omega (arith, s .pre .1))
 
 returns-4 : tie.Need-returns-4
-returns-4 c = let s : tie.Start = c .before .before .before .before .before .before .before .before .before .before in at-rest (P s) (s .args .at) (s .args .n) (c .before .before .before .before .before .if3 .left) (s .pre .1) (op-low (s .pre .0) (c .before .before .before .before .before .before .if2 .left) (s .pre .1)) (c .before .before .before .before .small .ensures) (c .before .before .apply2 .ensures) (c .apply3 .ensures)
+returns-4 c = let s : tie.Start = c .before .before .before .before .before .before .before .before .before .before in at-rest (P s) (s .args .at) (s .args .n) (c .before .before .before .before .before .if3 .left) (s .pre .1) (c .before .before .before .before .small .ensures) (c .before .before .apply2 .ensures) (c .apply3 .ensures)
 
 pub leaf-spec : {M : Type 1} → statement M
 leaf-spec =
