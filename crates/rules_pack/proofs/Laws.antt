@@ -249,16 +249,16 @@ module _ {P : Pool} {p : ℕ} (s : Plain P p) where
 
     module _ {v : ℕ} {n : Left} (i : o ≡ number.Is v) (j : n ≡ leftOf (T s l)) where
       -- an operator's number stays when its code goes to another group
-      moved : (c : ℕ) → c + opCode (named s e .op) ≡ c + code P p - pairOp
+      moved : (c : ℕ) → c + opCode (named s e .op) ≡ c + (code P p - pairOp)
       moved c = omega (arith, op-is, e .0)
 
-      pub is-op : n ≡ left.Count → IsLeaf (T s p) (nOp + code P p - pairOp) 0 v
+      pub is-op : n ≡ left.Count → IsLeaf (T s p) (nOp + (code P p - pairOp)) 0 v
       is-op g = record { is = bin-is (sym j ∙ g) i ∙ ap (λ (c : ℕ). leaf c 0 v) (moved nOp) }
 
-      pub is-rest : {m : ℕ} → n ≡ left.Rest m → IsLeaf (T s p) (restOp + code P p - pairOp) m v
+      pub is-rest : {m : ℕ} → n ≡ left.Rest m → IsLeaf (T s p) (restOp + (code P p - pairOp)) m v
       is-rest {m} g = record { is = bin-is (sym j ∙ g) i ∙ ap (λ (c : ℕ). leaf c m v) (moved restOp) }
 
-      pub is-one : n ≡ left.Other → IsOne (T s p) (T s l) (valueOp + code P p - pairOp) 0 v
+      pub is-one : n ≡ left.Other → IsOne (T s p) (T s l) (valueOp + (code P p - pairOp)) 0 v
       is-one g = record { is = bin-is (sym j ∙ g) i ∙ ap (λ (c : ℕ). one c 0 v (pack (T s l))) (moved valueOp) }
 
 -- the room that it takes

@@ -143,45 +143,19 @@ fn nodes<'a>(
         return n + 1;
     };
     let left = left_of(codes, places, values, first);
+    let op = code - node::OP;
     match left {
         Left::Count => {
-            put(
-                heads,
-                fields,
-                ints,
-                k,
-                node::N_OP + code - node::OP,
-                0,
-                0,
-                v,
-            );
+            put(heads, fields, ints, k, node::N_OP + op, 0, 0, v);
             k + 1
         }
         Left::Rest(m) => {
-            put(
-                heads,
-                fields,
-                ints,
-                k,
-                node::REST_OP + code - node::OP,
-                m,
-                0,
-                v,
-            );
+            put(heads, fields, ints, k, node::REST_OP + op, m, 0, v);
             k + 1
         }
         Left::Other => {
             let n = nodes(codes, places, values, first, heads, fields, ints, k);
-            put(
-                heads,
-                fields,
-                ints,
-                n,
-                node::VALUE_OP + code - node::OP,
-                0,
-                0,
-                v,
-            );
+            put(heads, fields, ints, n, node::VALUE_OP + op, 0, 0, v);
             n + 1
         }
     }

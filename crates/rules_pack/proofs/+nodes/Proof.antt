@@ -56,13 +56,13 @@ pair-here {t} d = let s : St t = d .before .before .before .before .before .befo
 two-here : {t : ℕ} (d : nodes-lts.After-enum-told3 (R-nodes t) (nodes-at t) nodes.Post) → IsTwo (treeOf (P (d .before .before .before .before .before .before .before .before .before)) (d .before .before .before .before .before .before .before .before .before .args .at)) (treeOf (P (d .before .before .before .before .before .before .before .before .before)) (d .before .before .before .before .place .result)) (treeOf (P (d .before .before .before .before .before .before .before .before .before)) (d .before .before .before .before .before .before .before .before .before .args .at - 1)) (code (P (d .before .before .before .before .before .before .before .before .before)) (d .before .before .before .before .before .before .before .before .before .args .at)) 0
 two-here {t} d = let s : St t = d .before .before .before .before .before .before .before .before .before in is-two (s .pre .1 .0) (pair-here (d .before .before .before)) (d .before .before .before .before .place .ensures) refl (d .before .before .number-of2 .ensures) (d .enum-told3 .given .1)
 
-op-here : {t : ℕ} (d : nodes-lts.After-enum-told4 (R-nodes t) (nodes-at t) nodes.Post) → IsLeaf (treeOf (P (d .before .before .before .before .before .before .before .before .before .before .before .before .before)) (d .before .before .before .before .before .before .before .before .before .before .before .before .before .args .at)) (nOp + code (P (d .before .before .before .before .before .before .before .before .before .before .before .before .before)) (d .before .before .before .before .before .before .before .before .before .before .before .before .before .args .at) - pairOp) 0 (d .before .before .before .before .number2 .given .0 .0)
+op-here : {t : ℕ} (d : nodes-lts.After-enum-told4 (R-nodes t) (nodes-at t) nodes.Post) → IsLeaf (treeOf (P (d .before .before .before .before .before .before .before .before .before .before .before .before .before)) (d .before .before .before .before .before .before .before .before .before .before .before .before .before .args .at)) (nOp + (code (P (d .before .before .before .before .before .before .before .before .before .before .before .before .before)) (d .before .before .before .before .before .before .before .before .before .before .before .before .before .args .at) - pairOp)) 0 (d .before .before .before .before .number2 .given .0 .0)
 op-here {t} d = let s : St t = d .before .before .before .before .before .before .before .before .before .before .before .before .before in is-op (s .pre .1 .0) (pair-here (d .before .before .before .before .before .before .before)) (d .before .before .before .before .before .before .before .before .place .ensures) refl (d .before .before .before .before .before .before .number-of2 .ensures) (d .before .before .before .before .number2 .given .1) (d .before .before .left-of .ensures) (d .enum-told4 .given .1)
 
-rest-here : {t : ℕ} (d : nodes-lts.After-known-told4 (R-nodes t) (nodes-at t) nodes.Post) → IsLeaf (treeOf (P (d .before .before .before .before .before .before .before .before .before .before .before .before .before .before)) (d .before .before .before .before .before .before .before .before .before .before .before .before .before .before .args .at)) (restOp + code (P (d .before .before .before .before .before .before .before .before .before .before .before .before .before .before)) (d .before .before .before .before .before .before .before .before .before .before .before .before .before .before .args .at) - pairOp) (d .before .left .given .0 .0) (d .before .before .before .before .before .number2 .given .0 .0)
+rest-here : {t : ℕ} (d : nodes-lts.After-known-told4 (R-nodes t) (nodes-at t) nodes.Post) → IsLeaf (treeOf (P (d .before .before .before .before .before .before .before .before .before .before .before .before .before .before)) (d .before .before .before .before .before .before .before .before .before .before .before .before .before .before .args .at)) (restOp + (code (P (d .before .before .before .before .before .before .before .before .before .before .before .before .before .before)) (d .before .before .before .before .before .before .before .before .before .before .before .before .before .before .args .at) - pairOp)) (d .before .left .given .0 .0) (d .before .before .before .before .before .number2 .given .0 .0)
 rest-here {t} d = let s : St t = d .before .before .before .before .before .before .before .before .before .before .before .before .before .before in is-rest (s .pre .1 .0) (pair-here (d .before .before .before .before .before .before .before .before)) (d .before .before .before .before .before .before .before .before .before .place .ensures) refl (d .before .before .before .before .before .before .before .number-of2 .ensures) (d .before .before .before .before .before .number2 .given .1) (d .before .before .before .left-of .ensures) (d .before .left .given .1)
 
-one-here : {t : ℕ} (d : nodes-lts.After-enum-told5 (R-nodes t) (nodes-at t) nodes.Post) → IsOne (treeOf (P (d .before .before .before .before .before .before .before .before .before .before .before .before .before)) (d .before .before .before .before .before .before .before .before .before .before .before .before .before .args .at)) (treeOf (P (d .before .before .before .before .before .before .before .before .before .before .before .before .before)) (d .before .before .before .before .before .before .before .before .place .result)) (valueOp + code (P (d .before .before .before .before .before .before .before .before .before .before .before .before .before)) (d .before .before .before .before .before .before .before .before .before .before .before .before .before .args .at) - pairOp) 0 (d .before .before .before .before .number2 .given .0 .0)
+one-here : {t : ℕ} (d : nodes-lts.After-enum-told5 (R-nodes t) (nodes-at t) nodes.Post) → IsOne (treeOf (P (d .before .before .before .before .before .before .before .before .before .before .before .before .before)) (d .before .before .before .before .before .before .before .before .before .before .before .before .before .args .at)) (treeOf (P (d .before .before .before .before .before .before .before .before .before .before .before .before .before)) (d .before .before .before .before .before .before .before .before .place .result)) (valueOp + (code (P (d .before .before .before .before .before .before .before .before .before .before .before .before .before)) (d .before .before .before .before .before .before .before .before .before .before .before .before .before .args .at) - pairOp)) 0 (d .before .before .before .before .number2 .given .0 .0)
 one-here {t} d = let s : St t = d .before .before .before .before .before .before .before .before .before .before .before .before .before in is-one (s .pre .1 .0) (pair-here (d .before .before .before .before .before .before .before)) (d .before .before .before .before .before .before .before .before .place .ensures) refl (d .before .before .before .before .before .before .number-of2 .ensures) (d .before .before .before .before .number2 .given .1) (d .before .before .left-of .ensures) (d .enum-told5 .given .1)
 
 nodes-element-copy-out-code : (t : ℕ) → nodes-lts.Need-element-copy-out-code (R-nodes t) (nodes-at t) nodes.Post
@@ -224,14 +224,14 @@ nodes-returns-7 t c = let s : St t = c .before .before .before .before .before .
 nodes-left-of-requires : (t : ℕ) → nodes-lts.Need-left-of-requires (R-nodes t) (nodes-at t) nodes.Post
 nodes-left-of-requires t c κs = let s : St t = c .before .before .before .before .before .before .before .before .before .before in lower (s .pre .1 .0) refl (left-in (s .pre .1 .0) (c .before .before .before .before .before .before .before .before .if1 .left) (c .before .before .before .before .before .before .before .if2 .left) (c .before .before .before .before .before .before .if3 .left)) (c .before .before .before .before .before .place .ensures) .1
 
+nodes-sub-op : (t : ℕ) → nodes-lts.Need-sub-op (R-nodes t) (nodes-at t) nodes.Post
+nodes-sub-op t c = let e = pair-here (c .before .before .before .before .before) in search needs
+
 nodes-enum-told-4 : (t : ℕ) → nodes-lts.Need-enum-told-4 (R-nodes t) (nodes-at t) nodes.Post
 nodes-enum-told-4 t c = search needs
 
 nodes-add-put : (t : ℕ) → nodes-lts.Need-add-put (R-nodes t) (nodes-at t) nodes.Post
 nodes-add-put t c = let e = pair-here (c .before .before .before .before .before .before .before .before .before .before) in search needs
-
-nodes-sub-put : (t : ℕ) → nodes-lts.Need-sub-put (R-nodes t) (nodes-at t) nodes.Post
-nodes-sub-put t c = let e = pair-here (c .before .before .before .before .before .before .before .before .before .before) in search needs
 
 nodes-put-requires-8 : (t : ℕ) → nodes-lts.Need-put-requires-8 (R-nodes t) (nodes-at t) nodes.Post
 nodes-put-requires-8 t c κs = let s : St t = c .before .before .before .before .before .before .before .before .before .before .before .before .before .before .before .before in omega (arith, s .pre .1 .1, size-leaf (op-here (c .before .before .before)))
@@ -244,9 +244,6 @@ nodes-enum-known-left t c = search needs
 
 nodes-add-put-2 : (t : ℕ) → nodes-lts.Need-add-put-2 (R-nodes t) (nodes-at t) nodes.Post
 nodes-add-put-2 t c = let e = pair-here (c .before .before .before .before .before .before .before .before .before .before .before) in search needs
-
-nodes-sub-put-2 : (t : ℕ) → nodes-lts.Need-sub-put-2 (R-nodes t) (nodes-at t) nodes.Post
-nodes-sub-put-2 t c = let e = pair-here (c .before .before .before .before .before .before .before .before .before .before .before) in search needs
 
 nodes-put-requires-9 : (t : ℕ) → nodes-lts.Need-put-requires-9 (R-nodes t) (nodes-at t) nodes.Post
 nodes-put-requires-9 t c κs = let s : St t = c .before .before .before .before .before .before .before .before .before .before .before .before .before .before .before .before .before in omega (arith, s .pre .1 .1, size-leaf (rest-here (c .before .before .before)))
@@ -262,9 +259,6 @@ nodes-nodes-requires-8 t c κs = let s : St t = c .before .before .before .befor
 
 nodes-add-put-3 : (t : ℕ) → nodes-lts.Need-add-put-3 (R-nodes t) (nodes-at t) nodes.Post
 nodes-add-put-3 t c = let e = pair-here (c .before .before .before .before .before .before .before .before .before .before .before .before .before .before) in search needs
-
-nodes-sub-put-3 : (t : ℕ) → nodes-lts.Need-sub-put-3 (R-nodes t) (nodes-at t) nodes.Post
-nodes-sub-put-3 t c = let e = pair-here (c .before .before .before .before .before .before .before .before .before .before .before .before .before .before) in search needs
 
 nodes-put-requires-10 : (t : ℕ) → nodes-lts.Need-put-requires-10 (R-nodes t) (nodes-at t) nodes.Post
 nodes-put-requires-10 t c κs = let s : St t = c .before .before .before .before .before .before .before .before .before .before .before .before .before .before .before .before .before .before .before .before in omega (arith, s .pre .1 .1, size-one (one-here (c .before .before .before .before .before .before .before)), c .before .before .before .nodes8 .ensures .end)
@@ -353,20 +347,18 @@ pub +nodes-spec : {M : Type 1} → statement M
     (nodes-add-result-7 t)
     (nodes-returns-7 t)
     (nodes-left-of-requires t)
+    (nodes-sub-op t)
     (nodes-enum-told-4 t)
     (nodes-add-put t)
-    (nodes-sub-put t)
     (nodes-put-requires-8 t)
     (nodes-add-result-8 t)
     (nodes-enum-known-left t)
     (nodes-add-put-2 t)
-    (nodes-sub-put-2 t)
     (nodes-put-requires-9 t)
     (nodes-add-result-9 t)
     (nodes-enum-told-5 t)
     (nodes-nodes-requires-8 t)
     (nodes-add-put-3 t)
-    (nodes-sub-put-3 t)
     (nodes-put-requires-10 t)
     (nodes-add-result-10 t)
     (nodes-returns-8 t)
