@@ -12,7 +12,7 @@ use Rattle.rules.specs.declared.Value.the-variants.{Is, ZeroModulus}
 use Rattle.rules.specs.declared.Rating.{Rating}
 use Rattle.rules.specs.declared.Rating.the-variants.{Range, Unrated}
 use Rattle.rules.specs.Tree.{Tree, var, int, nay, bin, cond, Op, cmp, calc, and, or, rem, div, ne, plus, minus, times}
-use Rattle.rules.specs.Value.{truth, truthV, pickV, compared, calculated, binary, negated, chosen, evalTree}
+use Rattle.rules.specs.Value.{truth, truthV, pickV, compared, binary, negated, chosen, evalTree}
 use Rattle.rules.specs.Range.{pickR, fullRange, kept, opRange, binRange, condRange, notRange, rateTree, fitsRange}
 use Rattle.rules.proofs.Operators.{never}
 

@@ -11,7 +11,7 @@ use native.Mathlib.Nat.{eq-or-lt-of-le, le-of-suc-le-suc}
 use lib.ListN.{getD}
 use lib.Dec.{ltb, leb}
 use borrow.Author.Tests.{lt-ltb, le-ltb, ltb-true, leb-true, eq-eqb, ne-eqb}
-use Rattle.rules.specs.Tree.{Tree, var, int, nay, bin, cond, rem, Op}
+use Rattle.rules.specs.Tree.{Tree, var, int, bin, cond, rem, Op}
 use Rattle.rules.specs.Operator.{opOf}
 use Rattle.rules.specs.Pool.{Pool, pool, code, field, value, known, leaf, one, two, node, build, below, treeAt, treeOf, fields, operandsTo, operands, allBelow, used, member, shaped, isTree, nOp, restOp, nayNode, valueOp, pairOp, choiceNode, ternaryNode}
 use Rattle.rules.specs.Promise.{Sound}

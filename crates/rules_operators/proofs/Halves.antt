@@ -1,8 +1,8 @@
 -- A product modulo 2^64 by the halves of its factors. Assumes nothing.
-use Prim.Native.Nat.{ℕ, _+_, _-_, _*_, _/_, _%_, _^_, _<_, _≤_}
-use mathlib.Core.Path.{_≡_, refl, sym, ap, ap₂, _∙_}
+use Prim.Native.Nat.{ℕ, _+_, _*_, _/_, _%_, _^_, _<_}
+use mathlib.Core.Path.{_≡_, sym, ap, ap₂, _∙_}
 use native.Mathlib.Omega.{arith}
-use native.Mathlib.Nat.{mul-add, add-mul, mul-assoc, mul-comm, mul-left-comm, mul-le-mul, add-mul-mod-self-right, mod-add-div', mod-lt}
+use native.Mathlib.Nat.{mul-add, add-mul, mul-assoc, mul-comm, mul-left-comm, mul-le-mul, add-mul-mod-self-right, mod-add-div'}
 
 -- the product of two halves is a number of 64 bits
 pub small : (a b : ℕ) → a < 4294967296 → b < 4294967296 → a * b < 2 ^ 64

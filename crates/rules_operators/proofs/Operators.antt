@@ -1,17 +1,17 @@
 -- Laws of the binary operators by their numbers, as an evaluation asks for them.
-use mathlib.Core.Path.{_≡_, refl, sym, _∙_}
+use mathlib.Core.Path.{_≡_, refl, sym}
 use mathlib.Core.Bool.{Bool, true, false}
 use mathlib.Core.Option.{Option, none, some}
-use Prim.Native.Nat.{ℕ, _+_, _-_, _*_, _/_, _%_, _^_, _<_, _≤_}
+use Prim.Native.Nat.{ℕ, _+_, _-_, _%_, _^_, _<_, _≤_}
 use native.Mathlib.Omega.{arith}
 use lib.Dec.{eqb}
 use borrow.Author.Tests.{not-true, not-false, eqb-true, eqb-false}
 use Rattle.rules.specs.declared.Value.{Value}
 use Rattle.rules.specs.declared.Value.the-variants.{Is, ZeroModulus}
 use Rattle.rules.specs.Tree.{Op, cmp, calc, and, or, rem, div, Cmp, eq, ne, ge, le, gt, lt, Calc, plus, minus, times}
-use Rattle.rules.specs.Value.{calculated, binary, truthV}
+use Rattle.rules.specs.Value.{binary, truthV}
 use Rattle.rules.specs.Operator.{opOf, opAt, opCode}
-use Rattle.rules.proofs.Operators.{never, code-is, op-low, op-at}
+use Rattle.rules.proofs.Operators.{never, code-is, op-at}
 use Rattle.rules_operators.specs.Operator.{settled, settledBy}
 
 pub same-cmp : {j k : Cmp} → some (cmp j) ≡ some (cmp k) → j ≡ k

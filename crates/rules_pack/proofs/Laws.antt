@@ -1,14 +1,13 @@
 -- Packing place by place: what the nodes that a reader left say of the tree, what is packed then, and how much room it takes.
 use mathlib.Core.Path.{_≡_, refl, sym, ap, _∙_}
-use mathlib.Core.Bool.{Bool, true, false, _&&_, _||_}
-use mathlib.Core.Option.{some}
+use mathlib.Core.Bool.{Bool, true, false, _&&_}
 use Prim.Native.Nat.{ℕ, _+_, _-_, _<_, _≤_}
 use native.Mathlib.Omega.{arith}
 use lib.ListN.{replicate}
 use lib.Dec.{eqb, leb, ltb}
-use borrow.Author.Tests.{eqb-true, eqb-false, eq-eqb, ne-eqb, lt-leb, leb-true, ltb-true}
+use borrow.Author.Tests.{eqb-true, eqb-false, ne-eqb, lt-leb, leb-true, ltb-true}
 use Rattle.rules.specs.Tree.{Tree, var, int, nay, bin, cond, Op, cmp, and, or, rem, eq, ne, ge, le, gt, lt, calc, div, plus, minus, times}
-use Rattle.rules.specs.Operator.{opOf, opCode, Named}
+use Rattle.rules.specs.Operator.{opCode, Named}
 use Rattle.rules.specs.Pool.{Pool, pool, code, value, field, treeOf, nOp, restOp, nayNode, pickNode, valueOp, pairOp, choiceNode, ternaryNode}
 use Rattle.rules.specs.Promise.{plain, Plain}
 use Rattle.rules.specs.declared.Number.{Number}
@@ -17,7 +16,7 @@ use Rattle.rules.specs.declared.Small.{Small}
 use Rattle.rules.specs.declared.Small.the-variants as small
 use Rattle.rules.specs.declared.Left.{Left}
 use Rattle.rules.specs.declared.Left.the-variants as left
-use Rattle.rules.specs.Store.{push, blank}
+use Rattle.rules.specs.Store.{push}
 use Rattle.rules.specs.Pack.{Packed, leaf, one, two, three, numberOf, smallBy, isCount, isRem, restBy, leftOf, packBin, packCond, pack, nodes, keep, packedSize, packed}
 use Rattle.rules.proofs.Operators.{named as operator, code-is}
 use Rattle.rules.proofs.Trees.{both-left, both-right, before-in, first-in, second-in, down, tree-leaf, tree-one, tree-two, tree-three, two-op}

@@ -1,21 +1,21 @@
 -- The answers of a rating at a place of a pool, by its code and its operands' ranges.
-use mathlib.Core.Path.{_≡_, refl, sym, ap, _∙_}
+use mathlib.Core.Path.{_≡_, refl, sym, _∙_}
 use mathlib.Core.Bool.{Bool, true, false}
 use mathlib.Core.List.{List}
 use mathlib.Core.Option.{some}
 use Prim.Native.Nat.{ℕ, _+_, _-_, _*_, _/_, _^_, _<_, _≤_, min, max}
 use native.Mathlib.Omega.{arith}
-use native.Mathlib.Nat.{mul-zero, mul-le-mul, le-div-iff-mul-le}
+use native.Mathlib.Nat.{mul-zero, le-div-iff-mul-le}
 use lib.Dec.{ltb, leb, eqb}
 use borrow.Author.Tests.{ltb-true, ltb-false, leb-true, leb-false, eqb-true, eqb-false, lt-ltb, le-ltb, le-leb, lt-leb, eq-eqb, ne-eqb}
 use Rattle.rules.specs.declared.Rating.{Rating}
 use Rattle.rules.specs.declared.Rating.the-variants.{Range, Unrated}
-use Rattle.rules.specs.Tree.{Tree, Op, cmp, calc, and, or, rem, div, var, int, nay, bin, cond, Calc, plus, minus, times}
-use Rattle.rules.specs.Operator.{opOf, opAt, opCode}
+use Rattle.rules.specs.Tree.{Op, cmp, calc, and, or, rem, div, var, int, nay, bin, cond, plus, minus, times}
+use Rattle.rules.specs.Operator.{opOf, opCode}
 use Rattle.rules.specs.Range.{fullRange, rateTree, kept, opRange, notRange, binRange, condRange}
 use Rattle.rules.specs.Pool.{Pool, code, field, value, leaf, one, two, joined, treeOf, nOp, restOp, nayNode, valueOp, pairOp, choiceNode, ternaryNode}
 use Rattle.rules.specs.Promise.{Sound}
-use Rattle.rules.proofs.Operators.{named, code-is, op-at}
+use Rattle.rules.proofs.Operators.{named, code-is}
 use Rattle.rules.proofs.InRange.{ordered}
 use Rattle.rules_operators.proofs.Operators.{is-rem, is-div}
 use Rattle.rules.proofs.Trees.{tree-leaf, tree-one, tree-two, tree-three, leaf-op, leaf-rest, one-op, two-op}

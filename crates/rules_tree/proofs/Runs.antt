@@ -1,14 +1,14 @@
 -- A run of nodes: what its walk down knows at each step, that it ends above place 0, and what a sound place knows of its run.
-use Prim.Native.Nat.{ℕ, suc, _+_, _-_, _<_, _≤_}
-use mathlib.Core.Path.{_≡_, refl, sym, ap, _∙_}
-use mathlib.Core.Bool.{Bool, true, false, _&&_}
+use Prim.Native.Nat.{ℕ, suc, _+_, _<_, _≤_}
+use mathlib.Core.Path.{_≡_, refl, sym, _∙_}
+use mathlib.Core.Bool.{Bool, true, false}
 use mathlib.Core.List.{List}
 use mathlib.Core.Logic.{⊎-elim}
 use native.Mathlib.Omega.{arith}
 use native.Mathlib.Nat.{eq-or-lt-of-le}
 use lib.ListN.{getD}
 use lib.Dec.{leb, ltb}
-use borrow.Author.Tests.{leb-true, ltb-true, le-leb, lt-ltb, le-ltb, ltb-false}
+use borrow.Author.Tests.{leb-true, ltb-true, le-leb, lt-ltb, ltb-false}
 use Rattle.rules.specs.Pool.{Pool, code, nayNode, ternaryNode}
 use Rattle.rules.specs.Promise.{Sound}
 use Rattle.rules.proofs.Operators.{never}

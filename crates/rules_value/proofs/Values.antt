@@ -20,7 +20,7 @@ use Rattle.rules_operators.specs.Operator.{settled, settledBy, Gives, Applies}
 use Rattle.rules_operators.proofs.Given.{number, fails-as, is-as, negation, first-arm, second-arm, left-alone, both, by-left}
 use Rattle.rules.proofs.Operators.{named}
 use Rattle.rules.proofs.Trees.{tree-leaf, tree-one, tree-two, tree-three, leaf-op, leaf-rest, one-op, two-op}
-use Rattle.rules_tree.specs.Promise.{above, Run}
+use Rattle.rules_tree.specs.Promise.{Run}
 use Rattle.rules_tree.proofs.Runs.{down-to}
 use Rattle.rules_value.specs.Private.{Lifts}
 

@@ -1,5 +1,5 @@
 -- `rules_operators::apply` meets its contract: each return is the definition at the operator that the tests before it leave.
-use mathlib.Core.Path.{_≡_, refl, sym, ap, _∙_}
+use mathlib.Core.Path.{refl, sym, ap, _∙_}
 use borrow.Author.Tests.{eq-eqb, ne-eqb}
 use native.Mathlib.Omega.{arith}
 use borrow.Author.Needs.{needs}
@@ -9,11 +9,6 @@ use Rattle.rules_operators.proofs.Operators.{low-cmp, high-calc, is-and
 use Rattle.rules_operators.proofs.Given.{applied-number, applied-zero}
 use Rattle.rules_operators.proofs.apply.Statement.{statement}
 use Rattle.rules_operators.proofs.apply.Tie as tie
-use Rattle.rules_operators.proofs.apply.Reads as reads
-use Rattle.rules_operators.proofs.apply.Lts as lts
-use Rattle.rules_operators.proofs.calculates.Reads as calculates-reads
-use Rattle.rules_operators.proofs.compares.Reads as compares-reads
-use Rattle.rules_operators.proofs.truth.Reads as truth-reads
 
 compares-requires : tie.Need-compares-requires
 compares-requires c κs = search needs

@@ -9,11 +9,6 @@ use Rattle.rules_operators.proofs.Operators.{same-calc, calc-rest, diff
 use borrow.Author.Needs.{needs}
 use Rattle.rules_operators.proofs.calculates.Statement.{statement}
 use Rattle.rules_operators.proofs.calculates.Tie as tie
-use Rattle.rules_operators.proofs.calculates.Reads as reads
-use Rattle.rules_operators.proofs.calculates.Lts as lts
-use Rattle.rules_operators.proofs.times.Reads as times-reads
-use Rattle.std.proofs.num.wrapping_add_u64.Reads as wrapping-add-u64-reads
-use Rattle.std.proofs.num.wrapping_sub_u64.Reads as wrapping-sub-u64-reads
 
 wrapping-add-u64-requires : tie.Need-wrapping-add-u64-requires
 wrapping-add-u64-requires c κs = search needs

@@ -3,12 +3,8 @@ use native.Mathlib.Omega.{arith}
 use Prim.Native.Nat.{_/_, _%_}
 use borrow.Author.Needs.{needs}
 use Rattle.rules_operators.proofs.Halves.{small, product}
-use borrow.Author.Needs.{needs}
 use Rattle.rules_operators.proofs.times.Statement.{statement}
 use Rattle.rules_operators.proofs.times.Tie as tie
-use Rattle.rules_operators.proofs.times.Reads as reads
-use Rattle.rules_operators.proofs.times.Lts as lts
-use Rattle.std.proofs.num.wrapping_add_u64.Reads as wrapping-add-u64-reads
 
 mul-wrapping-add-u64 : tie.Need-mul-wrapping-add-u64
 mul-wrapping-add-u64 c = let h = small (c .args .x / 4294967296) (c .args .y % 4294967296) (omega arith) (omega arith) in search needs

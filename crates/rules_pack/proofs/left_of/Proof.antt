@@ -6,10 +6,6 @@ use Rattle.rules_pack.proofs.Laws.{inside, left-count, left-other, left
 use borrow.Author.Needs.{needs}
 use Rattle.rules_pack.proofs.left_of.Statement.{statement}
 use Rattle.rules_pack.proofs.left_of.Tie as tie
-use Rattle.rules_pack.proofs.left_of.Reads as reads
-use Rattle.rules_pack.proofs.left_of.Lts as lts
-use Rattle.rules.proofs.place.Reads as place-reads
-use Rattle.rules_pack.proofs.small_of.Reads as small-of-reads
 
 element-copy-out-code : tie.Need-element-copy-out-code
 element-copy-out-code c = search needs

@@ -4,10 +4,6 @@ use Rattle.rules_range.proofs.Ranges.{left-none, right-none, op-none, o
 use borrow.Author.Needs.{needs}
 use Rattle.rules_range.proofs.binary.Statement.{statement}
 use Rattle.rules_range.proofs.binary.Tie as tie
-use Rattle.rules_range.proofs.binary.Reads as reads
-use Rattle.rules_range.proofs.binary.Lts as lts
-use Rattle.rules_range.proofs.ends.Reads as ends-reads
-use Rattle.rules_range.proofs.ranged.Reads as ranged-reads
 
 ends-requires : tie.Need-ends-requires
 ends-requires c κs = search needs

@@ -1,19 +1,15 @@
 -- `rules_range::calculated` meets its contract: an arm's number picks the row, and one of no other number is that of *.
-use Prim.Native.Nat.{_*_}
-use mathlib.Core.Path.{_≡_, refl, sym, ap, _∙_}
+use mathlib.Core.Path.{_≡_, sym, _∙_}
 use mathlib.Core.Option.{some}
 use native.Mathlib.Omega.{arith}
 use native.Mathlib.Nat.{mul-le-mul}
-use Rattle.rules.specs.Tree.{calc, plus, minus, times}
+use Rattle.rules.specs.Tree.{calc, plus, minus}
 use Rattle.rules.specs.Operator.{opOf, opAt}
 use Rattle.rules_operators.proofs.Operators.{same-calc, calc-rest}
 use Rattle.rules_range.proofs.Ranges.{plus-kept, plus-full, minus-kept, minus-full, times-kept, times-full, fits-low}
 use borrow.Author.Needs.{needs}
 use Rattle.rules_range.proofs.calculated.Statement.{statement}
 use Rattle.rules_range.proofs.calculated.Tie as tie
-use Rattle.rules_range.proofs.calculated.Reads as reads
-use Rattle.rules_range.proofs.calculated.Lts as lts
-use Rattle.rules_range.proofs.product_fits.Reads as product-fits-reads
 
 sub-if1 : tie.Need-sub-if1
 sub-if1 c = search needs

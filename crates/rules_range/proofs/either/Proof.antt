@@ -5,11 +5,6 @@ use Rattle.rules_range.proofs.Ranges.{second-none, third-none, both-arm
 use borrow.Author.Needs.{needs}
 use Rattle.rules_range.proofs.either.Statement.{statement}
 use Rattle.rules_range.proofs.either.Tie as tie
-use Rattle.rules_range.proofs.either.Reads as reads
-use Rattle.rules_range.proofs.either.Lts as lts
-use Rattle.rules_range.proofs.ends.Reads as ends-reads
-use Rattle.rules_range.proofs.least.Reads as least-reads
-use Rattle.rules_range.proofs.most.Reads as most-reads
 
 ends-requires : tie.Need-ends-requires
 ends-requires c κs = search needs

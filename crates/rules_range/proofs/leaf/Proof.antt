@@ -1,18 +1,12 @@
 -- `rules_range::leaf` meets its contract: each return is the range of the tree that the tests before it leave.
-use mathlib.Core.Path.{refl, _∙_}
+use mathlib.Core.Path.{_∙_}
 use native.Mathlib.Omega.{arith}
 use denote.Ref.{now}
-use Rattle.rules.specs.Pool.{Pool, pool, code, value}
+use Rattle.rules.specs.Pool.{Pool, pool, value}
 use Rattle.rules_range.proofs.Ranges.{range-of, ends-of, rate-count, rate-int, rate-op, rate-rest}
 use borrow.Author.Needs.{needs}
 use Rattle.rules_range.proofs.leaf.Statement.{statement}
 use Rattle.rules_range.proofs.leaf.Tie as tie
-use Rattle.rules_range.proofs.leaf.Reads as reads
-use Rattle.rules_range.proofs.leaf.Lts as lts
-use Rattle.rules_range.proofs.binary.Reads as binary-reads
-use Rattle.rules_range.proofs.ends.Reads as ends-reads
-use Rattle.rules_range.proofs.rest.Reads as rest-reads
-use Rattle.rules_range.proofs.small.Reads as small-reads
 
 abbrev P : tie.Start → Pool
 P s = pool (now (s .args .codes)) (now (s .args .places)) (now (s .args .values))

@@ -1,20 +1,14 @@
 -- `rules_range::one` meets its contract: each return is the range of the tree that the tests before it leave.
 use Prim.Native.Nat.{_-_, _<_}
-use mathlib.Core.Path.{refl, sym, _∙_}
+use mathlib.Core.Path.{sym, _∙_}
 use native.Mathlib.Omega.{arith}
 use denote.Ref.{now}
-use Rattle.rules.specs.Pool.{Pool, pool, code, value}
+use Rattle.rules.specs.Pool.{Pool, pool, value}
 use Rattle.rules.proofs.Trees.{before-in}
 use Rattle.rules_range.proofs.Ranges.{range-of, any-condition, none-of, nay-of, picked-of, rate-none, rate-nay, rate-picked, rate-one}
 use borrow.Author.Needs.{needs}
 use Rattle.rules_range.proofs.one.Statement.{statement}
 use Rattle.rules_range.proofs.one.Tie as tie
-use Rattle.rules_range.proofs.one.Reads as reads
-use Rattle.rules_range.proofs.one.Lts as lts
-use Rattle.rules_range.proofs.binary.Reads as binary-reads
-use Rattle.rules_range.proofs.either.Reads as either-reads
-use Rattle.rules_range.proofs.ends.Reads as ends-reads
-use Rattle.rules_range.proofs.small.Reads as small-reads
 
 abbrev P : tie.Start → Pool
 P s = pool (now (s .args .codes)) (now (s .args .places)) (now (s .args .values))

@@ -1,12 +1,9 @@
 -- A product is at most a number exactly if one factor is at most the quotient by the other. Assumes nothing.
-use mathlib.Core.Path.{_≡_, refl, sym, _∙_}
-use mathlib.Core.Bool.{Bool, true, false}
+use mathlib.Core.Path.{sym}
 use Rattle.rules_range.proofs.Ranges.{zero-fits, fits-told}
 use borrow.Author.Needs.{needs}
 use Rattle.rules_range.proofs.product_fits.Statement.{statement}
 use Rattle.rules_range.proofs.product_fits.Tie as tie
-use Rattle.rules_range.proofs.product_fits.Reads as reads
-use Rattle.rules_range.proofs.product_fits.Lts as lts
 
 returns : tie.Need-returns
 returns c = sym (zero-fits _ _ (c .if1 .taken))

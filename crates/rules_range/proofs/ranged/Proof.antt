@@ -1,6 +1,6 @@
 -- `rules_range::ranged` meets its contract: below %'s number every operator yields a truth, from +'s on it is calculated, and between are % and /.
-use mathlib.Core.Path.{_≡_, refl, sym, ap, _∙_}
-use borrow.Author.Tests.{eq-eqb, ne-eqb}
+use mathlib.Core.Path.{sym}
+use borrow.Author.Tests.{ne-eqb}
 use native.Mathlib.Omega.{arith}
 use Rattle.rules.specs.Range.{opRange}
 use Rattle.rules_operators.proofs.Operators.{high-calc, is-rem, is-div}
@@ -8,11 +8,6 @@ use Rattle.rules_range.proofs.Ranges.{truths, by-zero}
 use borrow.Author.Needs.{needs}
 use Rattle.rules_range.proofs.ranged.Statement.{statement}
 use Rattle.rules_range.proofs.ranged.Tie as tie
-use Rattle.rules_range.proofs.ranged.Reads as reads
-use Rattle.rules_range.proofs.ranged.Lts as lts
-use Rattle.rules_range.proofs.calculated.Reads as calculated-reads
-use Rattle.rules_range.proofs.least.Reads as least-reads
-use Rattle.rules_range.proofs.less.Reads as less-reads
 
 returns : tie.Need-returns
 returns c = record { is = λ op e. sym (truths _ op _ _ _ _ e (c .if1 .taken)) }

@@ -8,10 +8,6 @@ use Rattle.rules_range.proofs.Ranges.{range-of, none-of}
 use borrow.Author.Needs.{needs}
 use Rattle.rules_range.proofs.rating_of.Statement.{statement}
 use Rattle.rules_range.proofs.rating_of.Tie as tie
-use Rattle.rules_range.proofs.rating_of.Reads as reads
-use Rattle.rules_range.proofs.rating_of.Lts as lts
-use Rattle.rules_range.proofs.rate.Reads as rate-reads
-use Rattle.rules_tree.proofs.is_tree.Reads as is-tree-reads
 
 abbrev P : tie.Start → Pool
 P s = pool (now (s .args .codes)) (now (s .args .places)) (now (s .args .values))

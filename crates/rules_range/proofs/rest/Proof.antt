@@ -9,9 +9,6 @@ use Rattle.rules_range.proofs.Ranges.{range-of}
 use borrow.Author.Needs.{needs}
 use Rattle.rules_range.proofs.rest.Statement.{statement}
 use Rattle.rules_range.proofs.rest.Tie as tie
-use Rattle.rules_range.proofs.rest.Reads as reads
-use Rattle.rules_range.proofs.rest.Lts as lts
-use Rattle.rules_range.proofs.binary.Reads as binary-reads
 
 binary-requires : tie.Need-binary-requires
 binary-requires c κs = search needs

@@ -1,16 +1,11 @@
 -- `rules_tree::base` meets its contract. The loop's invariant: the nodes above p are of the run.
-use Prim.Native.Nat.{_-_}
-use mathlib.Core.Path.{_≡_, refl, sym, _∙_}
+use mathlib.Core.Path.{sym, _∙_}
 use native.Mathlib.Omega.{arith}
-use denote.Ref.{now}
 use Rattle.rules_tree.specs.Promise.{Run}
 use borrow.Author.Needs.{needs}
 use Rattle.rules_tree.proofs.Runs.{no-run, some-below, longer, stands}
 use Rattle.rules_tree.proofs.base.Statement.{statement}
 use Rattle.rules_tree.proofs.base.Tie as tie
-use Rattle.rules_tree.proofs.base.Reads as reads
-use Rattle.rules_tree.proofs.base.Lts as lts
-use Rattle.rules_tree.proofs.is_above.Reads as is-above-reads
 
 abbrev Inv-loop : tie.InvT-loop
 Inv-loop codes at end p₀ p = Run codes at end p

@@ -2,7 +2,6 @@
 use borrow.Author.Tests.{le-leb, lt-leb}
 use Rattle.rules.specs.Pool.{nayNode}
 use Rattle.rules_tree.specs.Promise.{above}
-use borrow.Author.Needs.{needs}
 use Rattle.rules_tree.proofs.is_above.Statement.{statement}
 use Rattle.rules_tree.proofs.is_above.Tie as tie
 

@@ -12,9 +12,6 @@ use Rattle.rules_tree.proofs.Marks.{Taken, before-taken, one-more, leaf
 use borrow.Author.Needs.{needs}
 use Rattle.rules_tree.proofs.is_node.Statement.{statement}
 use Rattle.rules_tree.proofs.is_node.Tie as tie
-use Rattle.rules_tree.proofs.is_node.Reads as reads
-use Rattle.rules_tree.proofs.is_node.Lts as lts
-use Rattle.rules_tree.proofs.takes.Reads as takes-reads
 
 abbrev P : tie.Start → Pool
 P s = pool (now (s .args .codes)) (now (s .args .places)) []

@@ -4,9 +4,6 @@ use native.Mathlib.Omega.{arith}
 use borrow.Author.Needs.{needs}
 use Rattle.rules_tree.proofs.takes.Statement.{statement}
 use Rattle.rules_tree.proofs.takes.Tie as tie
-use Rattle.rules_tree.proofs.takes.Reads as reads
-use Rattle.rules_tree.proofs.takes.Lts as lts
-use Rattle.rules.proofs.place.Reads as place-reads
 
 place-requires : tie.Need-place-requires
 place-requires c κs = search needs

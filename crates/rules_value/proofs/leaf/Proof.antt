@@ -4,14 +4,10 @@ use native.Mathlib.Omega.{arith}
 use denote.Ref.{now}
 use Rattle.rules.specs.Pool.{Pool, pool}
 use Rattle.rules.proofs.Operators.{named}
-use Rattle.rules_value.proofs.Values.{at-count, at-int, at-op, at-rest, inside}
+use Rattle.rules_value.proofs.Values.{at-count, at-int, at-op, at-rest}
 use borrow.Author.Needs.{needs}
 use Rattle.rules_value.proofs.leaf.Statement.{statement}
 use Rattle.rules_value.proofs.leaf.Tie as tie
-use Rattle.rules_value.proofs.leaf.Reads as reads
-use Rattle.rules_value.proofs.leaf.Lts as lts
-use Rattle.rules_operators.proofs.apply.Reads as apply-reads
-use Rattle.rules_value.proofs.small.Reads as small-reads
 
 abbrev P : tie.Start → Pool
 P s = pool (now (s .args .codes)) (now (s .args .places)) (now (s .args .values))

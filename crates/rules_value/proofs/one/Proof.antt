@@ -7,15 +7,10 @@ use Rattle.rules.specs.Pool.{Pool, pool, code, nayNode, pairOp}
 use Rattle.rules.proofs.Operators.{named}
 use Rattle.rules.proofs.Trees.{before-in}
 use Rattle.rules_tree.proofs.Runs.{low, high}
-use Rattle.rules_value.proofs.Values.{at-nay, at-other, at-value, at-one, inside}
+use Rattle.rules_value.proofs.Values.{at-nay, at-other, at-value, at-one}
 use borrow.Author.Needs.{needs}
 use Rattle.rules_value.proofs.one.Statement.{statement}
 use Rattle.rules_value.proofs.one.Tie as tie
-use Rattle.rules_value.proofs.one.Reads as reads
-use Rattle.rules_value.proofs.one.Lts as lts
-use Rattle.rules_operators.proofs.apply.Reads as apply-reads
-use Rattle.rules_operators.proofs.truth.Reads as truth-reads
-use Rattle.rules_value.proofs.small.Reads as small-reads
 
 abbrev P : tie.Start → Pool
 P s = pool (now (s .args .codes)) (now (s .args .places)) (now (s .args .values))

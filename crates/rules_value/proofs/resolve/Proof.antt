@@ -8,10 +8,6 @@ use Rattle.rules.proofs.Answers.{resolved-none, resolves}
 use borrow.Author.Needs.{needs}
 use Rattle.rules_value.proofs.resolve.Statement.{statement}
 use Rattle.rules_value.proofs.resolve.Tie as tie
-use Rattle.rules_value.proofs.resolve.Reads as reads
-use Rattle.rules_value.proofs.resolve.Lts as lts
-use Rattle.rules_tree.proofs.is_tree.Reads as is-tree-reads
-use Rattle.rules_value.proofs.value_at.Reads as value-at-reads
 
 abbrev P : tie.Start → Pool
 P s = pool (now (s .args .codes)) (now (s .args .places)) (now (s .args .values))

@@ -2,17 +2,13 @@
 use Prim.Native.Nat.{_-_, _≤_}
 use mathlib.Core.Path.{_≡_}
 use native.Mathlib.Omega.{arith}
-use denote.Ref.{now}
 use borrow.Author.Needs.{needs}
-use Rattle.rules.specs.Pool.{Pool, pool}
+use Rattle.rules.specs.Pool.{pool}
 use Rattle.rules_tree.proofs.Runs.{down-to}
 use Rattle.rules_value.specs.Private.{Lifts}
 use Rattle.rules_value.proofs.Values.{lift-none, lift-more}
 use Rattle.rules_value.proofs.up.Statement.{statement}
 use Rattle.rules_value.proofs.up.Tie as tie
-use Rattle.rules_value.proofs.up.Reads as reads
-use Rattle.rules_value.proofs.up.Lts as lts
-use Rattle.rules_value.proofs.one.Reads as one-reads
 
 abbrev Inv-loop : tie.InvT-loop
 Inv-loop codes places values base at x zero₀ p₀ y₀ zero p y = (base ≤ p) × (p ≤ at) × Lifts (pool codes places values) base p x zero₀ zero y

@@ -3,9 +3,6 @@ use Rattle.rules_value.proofs.Values.{failed, whole}
 use borrow.Author.Needs.{needs}
 use Rattle.rules_value.proofs.value_at.Statement.{statement}
 use Rattle.rules_value.proofs.value_at.Tie as tie
-use Rattle.rules_value.proofs.value_at.Reads as reads
-use Rattle.rules_value.proofs.value_at.Lts as lts
-use Rattle.rules_value.proofs.eval.Reads as eval-reads
 
 eval-requires : tie.Need-eval-requires
 eval-requires c κs = search needs
