@@ -276,22 +276,8 @@ nodes-returns-10 : (t : ℕ) → nodes-lts.Need-returns-10 (R-nodes t) (nodes-at
 nodes-returns-10 t c = let s : St t = c .before .before .before .before .before .before .before .before .before .before .before .before .before .before .before .before .before .before .before .before .before in done-one (one-here (c .before .before .before .before .before .before .before .before)) (c .before .before .before .before .nodes8 .ensures) (c .put10 .ensures) refl
 
 pub +nodes-spec : {M : Type 1} → statement M
-+nodes-spec = close μ-nodes λ t. nodes-lts.spec (
-  put-reads.Asked,
-  put-reads.Learnt,
-  nodes-below t,
-  nodes.Post,
-  place-reads.Asked,
-  place-reads.Learnt,
-  number-of-reads.Asked,
-  number-of-reads.Learnt,
-  before-reads.Asked,
-  before-reads.Learnt,
-  small-of-reads.Asked,
-  small-of-reads.Learnt,
-  left-of-reads.Asked,
-  left-of-reads.Learnt,
-)
++nodes-spec = close μ-nodes λ t. nodes-lts.spec
+    (R-nodes t)
     (nodes-at t)
     nodes.Post
     (nodes-element-copy-out-code t)

@@ -145,20 +145,8 @@ rate-returns : (t : ℕ) → rate-lts.Need-returns (R-rate t) (rate-at t) rate.P
 rate-returns t c = let s : Sr t = c .before .before .before .before .before in ended (pool (now (s .args .codes)) (now (s .args .places)) (now (s .args .values))) (c .before .loop .inv .0 .below) (omega arith) (c .before .loop .inv .1)
 
 pub +above+rate-spec : {M : Type 1} → statement M
-+above+rate-spec = close μ-above μ-rate (λ t. above-lts.spec (
-  one-reads.Asked,
-  one-reads.Learnt,
-  place-reads.Asked,
-  place-reads.Learnt,
-  rate-below t,
-  rate.Post,
-  binary-reads.Asked,
-  binary-reads.Learnt,
-  ends-reads.Asked,
-  ends-reads.Learnt,
-  either-reads.Asked,
-  either-reads.Learnt,
-)
++above+rate-spec = close μ-above μ-rate (λ t. above-lts.spec
+    (R-above t)
     (above-at t)
     above.Post
     (above-element-copy-out-code t)
@@ -178,14 +166,8 @@ pub +above+rate-spec : {M : Type 1} → statement M
     (above-rate-requires-2 t)
     (above-either-requires-2 t)
     (above-returns-5 t))
-    λ t. rate-lts.spec (
-      base-reads.Asked,
-      base-reads.Learnt,
-      leaf-reads.Asked,
-      leaf-reads.Learnt,
-      above-below t,
-      above.Post,
-    )
+    λ t. rate-lts.spec
+    (R-rate t)
     (rate-at t)
     rate.Post
     rate-Inv-loop

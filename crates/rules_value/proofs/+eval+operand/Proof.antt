@@ -154,24 +154,8 @@ operand-returns-2 : (t : ℕ) → operand-lts.Need-returns-2 (R-operand t) (oper
 operand-returns-2 t c = c .eval .ensures
 
 pub +eval+operand-spec : {M : Type 1} → statement M
-+eval+operand-spec = close μ-eval μ-operand (λ t. eval-lts.spec (
-  leaf-reads.Asked,
-  leaf-reads.Learnt,
-  base-reads.Asked,
-  base-reads.Learnt,
-  operand-below t,
-  operand.Post,
-  up-reads.Asked,
-  up-reads.Learnt,
-  place-reads.Asked,
-  place-reads.Learnt,
-  eval-below t,
-  eval.Post,
-  settles-reads.Asked,
-  settles-reads.Learnt,
-  apply-reads.Asked,
-  apply-reads.Learnt,
-)
++eval+operand-spec = close μ-eval μ-operand (λ t. eval-lts.spec
+    (R-eval t)
     (eval-at t)
     eval.Post
     (eval-element-copy-out-code t)
@@ -201,7 +185,7 @@ pub +eval+operand-spec : {M : Type 1} → statement M
     (eval-apply-requires-2 t)
     (eval-returns-7 t))
     λ t. operand-lts.spec
-    (leaf-reads.Asked, leaf-reads.Learnt, eval-below t, eval.Post)
+    (R-operand t)
     (operand-at t)
     operand.Post
     (operand-element-copy-out-if1 t)
