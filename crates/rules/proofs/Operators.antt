@@ -3,7 +3,7 @@ use mathlib.Core.Path.{_≡_, refl, sym, ap, _∙_}
 use mathlib.Core.Bool.{true, false}
 use mathlib.Core.List.{List, [], _∷_}
 use mathlib.Core.Option.{Option, none, some}
-use Prim.Native.Nat.{ℕ, zero, suc, _<_}
+use Prim.Native.Nat.{ℕ, zero, suc, _+_, _<_}
 use native.Mathlib.Omega.{arith}
 use lib.ListN.{length}
 use Rattle.rules.specs.Tree.{Op, cmp, calc, and, or, rem, div, eq, ne, ge, le, gt, lt, plus, minus, times}
@@ -42,54 +42,39 @@ op-code (calc plus) = refl
 op-code (calc minus) = refl
 op-code (calc times) = refl
 
-pub code-in : (op : Op) → opCode op < length operators
-unfolding opCode
-code-in (cmp eq) = omega arith
-code-in (cmp ne) = omega arith
-code-in (cmp ge) = omega arith
-code-in (cmp le) = omega arith
-code-in (cmp gt) = omega arith
-code-in (cmp lt) = omega arith
-code-in and = omega arith
-code-in or = omega arith
-code-in rem = omega arith
-code-in div = omega arith
-code-in (calc plus) = omega arith
-code-in (calc minus) = omega arith
-code-in (calc times) = omega arith
-
-abbrev numberIn : Option Op → ℕ
-numberIn none = 0
-numberIn (some op) = opCode op
-
-pub same-op : {p q : Op} → some p ≡ some q → p ≡ q
-same-op e = cc
-
 none-some : {A : Type 0} {op : Op} → none ≡ some op → A
 none-some e = let z : _≡_ {A = ℕ} 0 1 = cc in absurd (omega arith)
 
--- a number that has an operator is the operator's
-pub code-is : (i : ℕ) (op : Op) → opOf i ≡ some op → opCode op ≡ i
-unfolding opOf opAt opCode
-code-is zero op e = sym (ap numberIn e)
-code-is (suc zero) op e = sym (ap numberIn e)
-code-is (suc (suc zero)) op e = sym (ap numberIn e)
-code-is (suc (suc (suc zero))) op e = sym (ap numberIn e)
-code-is (suc (suc (suc (suc zero)))) op e = sym (ap numberIn e)
-code-is (suc (suc (suc (suc (suc zero))))) op e = sym (ap numberIn e)
-code-is (suc (suc (suc (suc (suc (suc zero)))))) op e = sym (ap numberIn e)
-code-is (suc (suc (suc (suc (suc (suc (suc zero))))))) op e = sym (ap numberIn e)
-code-is (suc (suc (suc (suc (suc (suc (suc (suc zero)))))))) op e = sym (ap numberIn e)
-code-is (suc (suc (suc (suc (suc (suc (suc (suc (suc zero))))))))) op e = sym (ap numberIn e)
-code-is (suc (suc (suc (suc (suc (suc (suc (suc (suc (suc zero)))))))))) op e = sym (ap numberIn e)
-code-is (suc (suc (suc (suc (suc (suc (suc (suc (suc (suc (suc zero))))))))))) op e = sym (ap numberIn e)
-code-is (suc (suc (suc (suc (suc (suc (suc (suc (suc (suc (suc (suc zero)))))))))))) op e = sym (ap numberIn e)
-code-is (suc (suc (suc (suc (suc (suc (suc (suc (suc (suc (suc (suc (suc i))))))))))))) op e = none-some e
+-- a number that has an operator is below the table's length
+at-low : (ops : List Op) (i : ℕ) {op : Op} → opAt ops i ≡ some op → i < length ops
+unfolding opAt
+at-low [] i e = none-some e
+at-low (op ∷ ops) zero e = omega arith
+at-low (op ∷ ops) (suc i) e = let h = at-low ops i e in omega arith
 
--- and is below the table's length
-pub op-low : (i : ℕ) (op : Op) → opOf i ≡ some op → i < length operators
-op-low i op e = let d = code-is i op e in let h = code-in op in omega arith
+pub code-in : (op : Op) → opCode op < length operators
+unfolding opOf
+code-in op = at-low operators (opCode op) (op-code op)
+
+-- and is the operator's: the table lists them by their numbers
+abbrev Numbered : List Op → ℕ → Type 0
+Numbered [] k = Unit {0}
+Numbered (op ∷ ops) k = (opCode op ≡ k) × Numbered ops (suc k)
+
+numbered : Numbered operators 0
+unfolding opCode
+numbered = omega arith
+
+at-number : (ops : List Op) (k i : ℕ) {op : Op} → Numbered ops k → opAt ops i ≡ some op → opCode op ≡ k + i
+unfolding opAt
+at-number [] k i n e = none-some e
+at-number (p ∷ ops) k zero {op} n e = let d : p ≡ op = cc in rw (← d) (omega (arith, n .0))
+at-number (p ∷ ops) k (suc i) n e = omega (arith, at-number ops (suc k) i (n .1) e)
+
+pub code-is : (i : ℕ) (op : Op) → opOf i ≡ some op → opCode op ≡ i
+unfolding opOf
+code-is i op e = omega (arith, at-number operators 0 i numbered e)
 
 -- the operator of a number that is known
 pub op-at : (i k : ℕ) {op q : Op} → opOf i ≡ some op → i ≡ k → opOf k ≡ some q → op ≡ q
-op-at i k e h d = same-op (sym e ∙ ap opOf h ∙ d)
+op-at i k e h d = cc (ap opOf h)
