@@ -49,13 +49,13 @@ module _ (P : Pool) (count root : ℕ) where
   rates e d f = sym (rated-tree e ∙ ap rangeOf (sym d ∙ f))
 
 -- whether a rule fits, by its range
-abbrev fitFrom : Rated → ℕ → Fit
+abbrev pub fitFrom : Rated → ℕ → Fit
 fitFrom (rated.Range l h) k = fitting (ltb h k)
 fitFrom rated.Unrated k = fit.No
 fitFrom rated.NoTree k = fit.NoTree
 
 module _ (P : Pool) (count root k : ℕ) where
-  fit-from : fitOf P count root k ≡ fitFrom (ratedOf P count root) k
+  pub fit-from : fitOf P count root k ≡ fitFrom (ratedOf P count root) k
   unfolding fitOf ratedOf fitsRange
   fit-from = go (isTree P count root) (rateTree (treeOf P root))
     where

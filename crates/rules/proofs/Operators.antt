@@ -1,8 +1,8 @@
 -- The table of operators: a number below its length has an operator, and an operator has one number.
-use mathlib.Core.Path.{_≡_, refl, sym, ap, _∙_}
-use mathlib.Core.Bool.{true, false}
+use mathlib.Core.Path.{_≡_, refl, ap}
+use mathlib.Core.Bool.{Bool, true, false}
 use mathlib.Core.List.{List, [], _∷_}
-use mathlib.Core.Option.{Option, none, some}
+use mathlib.Core.Option.{none, some}
 use Prim.Native.Nat.{ℕ, zero, suc, _+_, _<_}
 use native.Mathlib.Omega.{arith}
 use lib.ListN.{length}
@@ -11,6 +11,15 @@ use Rattle.rules.specs.Operator.{operators, opAt, opOf, Named, opCode}
 
 pub never : {A : Type 0} → false ≡ true → A
 never e = let z : _≡_ {A = ℕ} 0 1 = cc in absurd (omega arith)
+
+-- by the outcome of a test
+pub split : {A : Type 0} (b : Bool) → (b ≡ true → A) → (b ≡ false → A) → A
+split true f g = f refl
+split false f g = g refl
+
+pub either : {A : Type 0} (B : A → Type 0) (b : Bool) {x y : A} → B x → B y → B (elim b [ true ↦ x | false ↦ y ])
+either B true p q = p
+either B false p q = q
 
 record Row (ops : List Op) (i : ℕ) : Type 0 where
   op : Op

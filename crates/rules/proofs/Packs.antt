@@ -1,6 +1,6 @@
 -- A packed tree is unpacked to the tree itself, its codes are those of their operands, and it has no more nodes than the tree.
 use mathlib.Core.Path.{_≡_, refl, ap}
-use mathlib.Core.Bool.{Bool, true, false, _&&_}
+use mathlib.Core.Bool.{true, false, _&&_}
 use mathlib.Core.Option.{some}
 use Prim.Native.Nat.{ℕ, _+_, _-_, _<_, _≤_}
 use native.Mathlib.Omega.{arith}
@@ -17,7 +17,7 @@ use Rattle.rules.specs.Pool.{nOp, restOp, nayNode, valueOp, pairOp, tern
 use Rattle.rules.specs.Pool as pool
 use Rattle.rules.specs.Store.{size}
 use Rattle.rules.specs.Pack.{Packed, leaf, one, two, three, unpack, numberOf, smallBy, smallOf, isCount, isRem, restBy, leftOf, packBin, packCond, pack, nodes, packedSize}
-use Rattle.rules.proofs.Operators.{op-code, code-in}
+use Rattle.rules.proofs.Operators.{either, op-code, code-in}
 use Rattle.rules.proofs.Trees.{leaf-op, leaf-rest, one-op, two-op}
 
 -- each code has as many operands as there are
@@ -61,11 +61,7 @@ SmallIs t (small.Is m) = t ≡ int m
 SmallIs t small.Other = Unit {0}
 
 small-by : (t : Tree) (n : Number) → NumberIs t n → SmallIs t (smallBy n)
-small-by t (number.Is m) e = go (ltb m 65536)
-  where
-    go : (b : Bool) → SmallIs t (elim b [ true ↦ small.Is m | false ↦ small.Other ])
-    go true = e
-    go false = tt
+small-by t (number.Is m) e = either (SmallIs t) (ltb m 65536) e tt
 small-by t number.Other e = tt
 
 small-is : (t : Tree) → SmallIs t (smallOf t)

@@ -2,7 +2,7 @@
 -- it uses. So every answer of a pool with a packed tree is the tree's own.
 use Prim.Native.Nat.{ℕ, zero, suc, _+_, _-_, _<_, _≤_}
 use mathlib.Core.Path.{_≡_, refl, ap, ap₂, _∙_}
-use mathlib.Core.Bool.{Bool, true, false}
+use mathlib.Core.Bool.{true, false}
 use mathlib.Core.List.{List, [], _∷_, _++_}
 use native.Mathlib.Omega.{arith}
 use native.Mathlib.Nat.{zero-add}
@@ -15,19 +15,15 @@ use Rattle.rules.specs.Answer.{formOf, rangeOf, fitting, resolvedOf, rat
 use Rattle.rules.specs.Pool.{Pool, code, fields, operandsTo, operands, allBelow, member, distinct, used, shaped, treeOf, isTree, nayNode, pairOp, ternaryNode}
 use Rattle.rules.specs.Store.{push, size, blank}
 use Rattle.rules.specs.Pack.{Packed, leaf, one, two, three, pack, nodes, keep, packedSize, packed}
-use Rattle.rules.proofs.Trees.{member-tail}
+use Rattle.rules.proofs.Operators.{either}
+use Rattle.rules.proofs.Trees.{member-tail, both-fields}
 use Rattle.rules.proofs.Answers.{resolved-tree, rated-tree, fit-tree}
 use Rattle.rules.proofs.Packs.{Fits, right}
 use Rattle.rules.proofs.Stored.{nodes-pos, Long, less, Same, Node, push-below, pushed, keep-long, long-blank, kept-tree}
 
 -- pools that agree below k pass the test there alike
 fields-most : (c : ℕ) → fields c ≤ 2
-fields-most c = go (ltb c pairOp) (ltb c ternaryNode)
-  where
-    go : (a b : Bool) → elim a [ true ↦ 0 | false ↦ elim b [ true ↦ 1 | false ↦ 2 ] ] ≤ 2
-    go true b = omega arith
-    go false true = omega arith
-    go false false = omega arith
+fields-most c = either (λ n. n ≤ 2) (ltb c pairOp) (omega arith) (either (λ n. n ≤ 2) (ltb c ternaryNode) (omega arith) (omega arith))
 
 operands-to : (P Q : Pool) (p a : ℕ) → a ≤ 2 → Same P Q p → operandsTo P p a ≡ operandsTo Q p a
 unfolding operandsTo
@@ -115,7 +111,7 @@ module _ {X : Pool} {k c x y v : ℕ} (n : Node X k c x y v) where
 
   ops-three : ternaryNode ≤ c → operands X k ≡ y ∷ x ∷ (k - 1) ∷ []
   unfolding operandsTo
-  ops-three h = ops-to 2 (omega arith) (rw (fields, le-ltb c pairOp (omega arith), le-ltb c ternaryNode h)) ∙ rw (n .first-is, n .second-is)
+  ops-three h = ops-to 2 (omega arith) (both-fields c h) ∙ rw (n .first-is, n .second-is)
 
 -- a node more, over operands that are below it and that none uses
 module _ (P Q : Pool) (k n c x y v : ℕ) where

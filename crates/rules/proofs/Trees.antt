@@ -15,7 +15,7 @@ use Rattle.rules.specs.Tree.{Tree, var, int, bin, cond, rem, Op}
 use Rattle.rules.specs.Operator.{opOf}
 use Rattle.rules.specs.Pool.{Pool, pool, code, field, value, known, leaf, one, two, node, build, below, treeAt, treeOf, fields, operandsTo, operands, allBelow, used, member, shaped, isTree, nOp, restOp, nayNode, valueOp, pairOp, choiceNode, ternaryNode}
 use Rattle.rules.specs.Promise.{Sound}
-use Rattle.rules.proofs.Operators.{never}
+use Rattle.rules.proofs.Operators.{never, split, either}
 
 pub both-left : (a b : Bool) → (a && b) ≡ true → a ≡ true
 both-left true b e = refl
@@ -38,11 +38,7 @@ below-in f p q h = rw (below, lt-ltb _ _ h)
 
 -- two ways to find the operands' trees agree below the place
 below-same : (f g : ℕ → Tree) (p q : ℕ) → ((i : ℕ) → i < p → f i ≡ g i) → below f p q ≡ below g p q
-below-same f g p q h = go (ltb q p) refl
-  where
-    go : (b : Bool) → ltb q p ≡ b → _≡_ {A = Tree} (elim b [ true ↦ f q | false ↦ var ]) (elim b [ true ↦ g q | false ↦ var ])
-    go true e = h q (ltb-true q p e)
-    go false e = refl
+below-same f g p q h = split (ltb q p) (λ e. rw (below, e) (h q (ltb-true q p e))) (λ e. rw (below, e))
 
 pub node-same : (P : Pool) (p : ℕ) (f g : ℕ → Tree) → ((i : ℕ) → i < p → f i ≡ g i) → node P p f ≡ node P p g
 node-same P p f g h = cc (below-same f g p (field P p 0) h, below-same f g p (field P p 1) h, below-same f g p (p - 1) h)
@@ -104,6 +100,13 @@ module _ (P : Pool) (p : ℕ) where
       rw (tree-is P p, below-in (treeOf P) p (p - 1) b, below-in (treeOf P) p (field P p 0) x, below-in (treeOf P) p (field P p 1) y)
       (build-three _ _ _ _ _ _ h)
 
+-- an operator on two nodes has a field that is a place, and ?: has two
+pub some-fields : (c : ℕ) → pairOp ≤ c → 0 < fields c
+some-fields c h = rw (fields, le-ltb c pairOp h) (either (λ n. 0 < n) (ltb c ternaryNode) (omega arith) (omega arith))
+
+pub both-fields : (c : ℕ) → ternaryNode ≤ c → fields c ≡ 2
+both-fields c h = rw (fields, le-ltb c pairOp (omega arith), le-ltb c ternaryNode h)
+
 -- a place below the node count of a sound pool has a known code and its operands below it
 in-shape : (P : Pool) (k p : ℕ) → p < k → shaped P k ≡ true → (known (code P p) && allBelow p (operands P p)) ≡ true
 unfolding shaped
@@ -143,15 +146,10 @@ module _ {P : Pool} {p : ℕ} (s : Sound P p) where
   before-in h = before-low P p (fields (code P p)) (all-in h)
 
   pub first-in : pairOp ≤ code P p → field P p 0 < p
-  first-in h = field-low P p (fields (code P p)) 0 (rw (fields, le-ltb (code P p) pairOp h) (go (ltb (code P p) ternaryNode))) (all-in (omega arith))
-    where
-      go : (b : Bool) → 0 < elim b [ true ↦ 1 | false ↦ 2 ]
-      go true = omega arith
-      go false = omega arith
+  first-in h = field-low P p (fields (code P p)) 0 (some-fields (code P p) h) (all-in (omega arith))
 
   pub second-in : ternaryNode ≤ code P p → field P p 1 < p
-  second-in h =
-      field-low P p (fields (code P p)) 1 (rw (fields, le-ltb (code P p) pairOp (omega arith), le-ltb (code P p) ternaryNode h) (omega arith)) (all-in (omega arith))
+  second-in h = field-low P p (fields (code P p)) 1 (rw (both-fields (code P p) h) (omega arith)) (all-in (omega arith))
 
   pub down : {q x t : ℕ} → p ≡ t → x < p → q ≡ x → (q < t) × Sound P q
   down e l d = (omega arith, record { count = s .count; inside = omega (arith, s .inside); few = s .few; shape = s .shape })

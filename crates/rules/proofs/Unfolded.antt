@@ -1,12 +1,11 @@
 -- What a reader leaves: a tree with nothing folded, each n, integer and operator a node. The arrays hold it, and it passes the test, as a
 -- packed tree does.
 use mathlib.Core.Path.{_≡_, refl, _∙_}
-use mathlib.Core.Bool.{Bool, true, false, _||_}
+use mathlib.Core.Bool.{true, or-true}
 use mathlib.Core.Logic.{⊎-elim}
 use Prim.Native.Nat.{ℕ, _+_, _-_, _<_, _≤_}
 use native.Mathlib.Omega.{arith}
 use native.Mathlib.Nat.{eq-or-lt-of-le}
-use lib.Dec.{leb, eqb}
 use borrow.Author.Tests.{lt-ltb, le-leb}
 use Rattle.rules.specs.Tree.{Tree, var, int, nay, bin, cond}
 use Rattle.rules.specs.Operator.{opCode}
@@ -121,13 +120,7 @@ keep-plain (three x y z) k P l w b =
     q (omega arith)
 
 reader-op : (c : ℕ) → pairOp ≤ c → c < choiceNode → plain c ≡ true
-reader-op c h l = rw (plain, le-leb pairOp c h, lt-ltb c choiceNode l) (go (leb c 1) (eqb c nayNode) (eqb c ternaryNode))
-  where
-    go : (a b d : Bool) → (a || (b || (d || true))) ≡ true
-    go true b d = refl
-    go false true d = refl
-    go false false true = refl
-    go false false false = refl
+reader-op c h l = rw (plain, le-leb pairOp c h, lt-ltb c choiceNode l, or-true, or-true, or-true)
 
 written : (t : Tree) → Written (spread t)
 unfolding spread
