@@ -12,7 +12,7 @@ use Rattle.rules.specs.Pool.{Pool, pool, code, field, value, build, belo
 use Rattle.rules.specs.Pool as at
 use Rattle.rules.specs.Store.{push, zeros, blank}
 use Rattle.rules.specs.Pack.{Packed, leaf, one, two, three, unpack, pack, nodes, keep, packedSize, packed}
-use Rattle.rules.proofs.Trees.{below-in, node-same, tree-is, build-leaf, build-one, build-two, build-three}
+use Rattle.rules.proofs.Trees.{Alike, below-in, node-same, tree-is, build-leaf, build-one, build-two, build-three}
 use Rattle.rules.proofs.Packs.{Fits}
 
 pub nodes-pos : (x : Packed) → 0 < nodes x
@@ -33,14 +33,15 @@ less m h l = record { in-codes = omega arith; in-places = omega arith; in-values
 
 -- two pools have the same node at a place
 pub record Same (P Q : Pool) (p : ℕ) : Type 0 where
-  pub code-same : code P p ≡ code Q p
-  pub field-same : (j : ℕ) → j < 2 → field P p j ≡ field Q p j
+  pub alike : Alike P Q p
   pub value-same : value P p ≡ value Q p
 
 pub same-as : {P Q R : Pool} {p : ℕ} → Same P Q p → Same Q R p → Same P R p
 same-as s t = record {
-  code-same = s .code-same ∙ t .code-same;
-  field-same = λ j h. s .field-same j h ∙ t .field-same j h;
+  alike = record {
+    code-same = s .alike .code-same ∙ t .alike .code-same;
+    field-same = λ j h. s .alike .field-same j h ∙ t .alike .field-same j h;
+  };
   value-same = s .value-same ∙ t .value-same;
 }
 
@@ -65,9 +66,11 @@ module _ (P : Pool) (k c x y v : ℕ) where
 
   pub push-below : (p : ℕ) → p < k → Same (push P k c x y v) P p
   push-below p h = record {
-    code-same = getD-set-other (P .codes) k p c 0 (omega arith);
-    field-same = λ j l. getD-set-other first (2 * k + 1) (2 * p + j) y 0 (omega arith)
-        ∙ getD-set-other (P .places) (2 * k) (2 * p + j) x 0 (omega arith);
+    alike = record {
+      code-same = getD-set-other (P .codes) k p c 0 (omega arith);
+      field-same = λ j l. getD-set-other first (2 * k + 1) (2 * p + j) y 0 (omega arith)
+          ∙ getD-set-other (P .places) (2 * k) (2 * p + j) x 0 (omega arith);
+    };
     value-same = getD-set-other (P .values) k p v 0 (omega arith);
   }
 
@@ -106,7 +109,7 @@ keep-below (three x y z) k P p h =
 
 -- pools that agree below k hold the same trees there
 node-frame : (P Q : Pool) (p : ℕ) (f : ℕ → Tree) → Same P Q p → node P p f ≡ node Q p f
-node-frame P Q p f s = rw (s .code-same, s .field-same 0 (omega arith), s .field-same 1 (omega arith), s .value-same)
+node-frame P Q p f s = rw (s .alike .code-same, s .alike .field-same 0 (omega arith), s .alike .field-same 1 (omega arith), s .value-same)
 
 frame-at : (f : ℕ) (P Q : Pool) (k : ℕ) → ((i : ℕ) → i < k → Same P Q i) → (p : ℕ) → p < f → p < k → treeOf P p ≡ treeOf Q p
 frame-at zero P Q k s p h l = absurd (omega arith)

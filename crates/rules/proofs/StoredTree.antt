@@ -16,39 +16,10 @@ use Rattle.rules.specs.Pool.{Pool, code, fields, operandsTo, operands, a
 use Rattle.rules.specs.Store.{push, size, blank}
 use Rattle.rules.specs.Pack.{Packed, leaf, one, two, three, pack, nodes, keep, packedSize, packed}
 use Rattle.rules.proofs.Operators.{either}
-use Rattle.rules.proofs.Trees.{member-tail, both-fields}
+use Rattle.rules.proofs.Trees.{member-tail, both-fields, used-same, shaped-same}
 use Rattle.rules.proofs.Answers.{resolved-tree, rated-tree, fit-tree}
 use Rattle.rules.proofs.Packs.{Fits, right}
 use Rattle.rules.proofs.Stored.{nodes-pos, Long, less, Same, Node, push-below, pushed, keep-long, long-blank, kept-tree}
-
--- pools that agree below k pass the test there alike
-fields-most : (c : ℕ) → fields c ≤ 2
-fields-most c = either (λ n. n ≤ 2) (ltb c pairOp) (omega arith) (either (λ n. n ≤ 2) (ltb c ternaryNode) (omega arith) (omega arith))
-
-operands-to : (P Q : Pool) (p a : ℕ) → a ≤ 2 → Same P Q p → operandsTo P p a ≡ operandsTo Q p a
-unfolding operandsTo
-operands-to P Q p zero h s = refl
-operands-to P Q p (suc a) h s = rw (s .field-same a (omega arith), operands-to P Q p a (omega arith) s)
-
-abbrev by : Pool → ℕ → ℕ → List ℕ
-by Q p c = elim (ltb c nayNode) [ true ↦ [] | false ↦ operandsTo Q p (fields c) ]
-
-operands-same : (P Q : Pool) (p : ℕ) → Same P Q p → operands P p ≡ operands Q p
-unfolding operands
-operands-same P Q p s =
-    ap (λ (l : List ℕ). elim (ltb (code P p) nayNode) [ true ↦ [] | false ↦ l ]) (operands-to P Q p (fields (code P p)) (fields-most (code P p)) s)
-    ∙ ap (by Q p) (s .code-same)
-
-used-same : (P Q : Pool) (k : ℕ) → ((i : ℕ) → i < k → Same P Q i) → used P k ≡ used Q k
-unfolding used
-used-same P Q zero h = refl
-used-same P Q (suc k) h = ap₂ (λ (x y : List ℕ). x ++ y) (operands-same P Q k (h k (omega arith))) (used-same P Q k (λ i j. h i (omega arith)))
-
-shaped-same : (P Q : Pool) (k : ℕ) → ((i : ℕ) → i < k → Same P Q i) → shaped P k ≡ shaped Q k
-unfolding shaped
-shaped-same P Q zero h = refl
-shaped-same P Q (suc k) h =
-    rw (shaped-same P Q k (λ i j. h i (omega arith)), operands-same P Q k (h k (omega arith)), h k (omega arith) .code-same)
 
 -- xs is ys with places from k on, none twice, all below n
 record Grown (xs ys : List ℕ) (k n : ℕ) : Type 0 where
@@ -122,8 +93,8 @@ module _ (P Q : Pool) (k n c x y v : ℕ) where
       → Grown (ys ++ used Q n) (used P k) k n → Filled P X k m
   unfolding shaped used
   node-filled m ys e l s h o b g =
-      let u : used X n ≡ used Q n = used-same X Q n (λ i j. push-below Q n c x y v i j) in
-      let w : shaped X n ≡ true = shaped-same X Q n (λ i j. push-below Q n c x y v i j) ∙ s in
+      let u : used X n ≡ used Q n = used-same X Q n (λ i j. push-below Q n c x y v i j .alike) in
+      let w : shaped X n ≡ true = shaped-same X Q n (λ i j. push-below Q n c x y v i j .alike) ∙ s in
       let d : used X m ≡ ys ++ used Q n = rw (e, o, u) in
       record {
         shape = rw (e, w, o, pushed Q n c x y v l .code-is, le-leb c ternaryNode h, b);
@@ -134,18 +105,6 @@ module _ (P Q : Pool) (k n c x y v : ℕ) where
 
 bare : {P : Pool} {k : ℕ} → Tidy P k → Grown (used P k) (used P k) k k
 bare t = record { apart = t .apart; above = t .above; kept = λ i j. refl }
-
-all-below-one : (n x : ℕ) → x < n → allBelow n (x ∷ []) ≡ true
-unfolding allBelow
-all-below-one n x h = rw (lt-ltb x n h)
-
-all-below-two : (n x y : ℕ) → x < n → y < n → allBelow n (y ∷ x ∷ []) ≡ true
-unfolding allBelow
-all-below-two n x y h l = rw (lt-ltb x n h, lt-ltb y n l)
-
-all-below-three : (n x y z : ℕ) → x < n → y < n → z < n → allBelow n (z ∷ y ∷ x ∷ []) ≡ true
-unfolding allBelow
-all-below-three n x y z h l b = rw (lt-ltb x n h, lt-ltb y n l, lt-ltb z n b)
 
 fill : (x : Packed) (k : ℕ) (P : Pool) → Fits x → Long P (k + nodes x) → Tidy P k → Filled P (keep x k P) k (k + nodes x)
 unfolding keep nodes allBelow
@@ -159,7 +118,7 @@ fill (one c m v x) k P f l h =
     let a : Filled P Q k n = fill x k P (f .2) (less n (omega arith) l) h in
     node-filled P Q k n c m 0 v _ ((n - 1) ∷ []) (omega arith) room (a .shape) (omega (arith, f .1))
     (ops-one (pushed Q n c m 0 v room) (f .0) (f .1))
-    (all-below-one n (n - 1) (omega arith))
+    (rw (lt-ltb (n - 1) n (omega arith)))
     (add (grown a) (a .above (n - 1) (omega arith)) (omega arith) (omega arith))
 fill (two c v x y) k P f l h =
     let m = k + nodes x in
@@ -173,7 +132,7 @@ fill (two c v x y) k P f l h =
     let b : Filled R Q m n = fill y m R (f .3) (keep-long x k P (less n (omega arith) l)) (tidy a) in
     node-filled P Q k n c (m - 1) 0 v _ ((m - 1) ∷ (n - 1) ∷ []) (omega arith) room (b .shape) (omega (arith, f .1))
     (ops-two (pushed Q n c (m - 1) 0 v room) (f .0) (f .1))
-    (all-below-two n (n - 1) (m - 1) (omega arith) (omega arith))
+    (rw (lt-ltb (n - 1) n (omega arith), lt-ltb (m - 1) n (omega arith)))
     (add
     (add (grown (further b a (omega arith))) (b .above (n - 1) (omega arith)) (omega arith) (omega arith))
     (member-tail (n - 1) (m - 1) (used Q n) (omega arith) ∙ b .kept (m - 1) (omega arith) ∙ a .above (m - 1) (omega arith))
@@ -195,7 +154,7 @@ fill (three x y z) k P f l h =
     let e : Filled S Q r n = fill z r S (f .2) (keep-long y m R (keep-long x k P (less n (omega arith) l))) (tidy b) in
     node-filled P Q k n ternaryNode (m - 1) (r - 1) 0 _ ((r - 1) ∷ (m - 1) ∷ (n - 1) ∷ []) (omega arith) room (e .shape) (omega arith)
     (ops-three (pushed Q n ternaryNode (m - 1) (r - 1) 0 room) (omega arith))
-    (all-below-three n (n - 1) (m - 1) (r - 1) (omega arith) (omega arith) (omega arith))
+    (rw (lt-ltb (n - 1) n (omega arith), lt-ltb (m - 1) n (omega arith), lt-ltb (r - 1) n (omega arith)))
     (add
     (add
     (add (grown (further e (further b a (omega arith)) (omega arith))) (e .above (n - 1) (omega arith)) (omega arith) (omega arith))

@@ -166,31 +166,42 @@ module _ (P : Pool) (count root : ℕ) where
         shape = both-left (shaped P count) _ (both-right (ltb root count) _ d);
       }
 
--- the test looks at no values
-module _ (c s v w : List ℕ) where
-  operands-any : (p j : ℕ) → operandsTo (pool c s v) p j ≡ operandsTo (pool c s w) p j
-  unfolding operandsTo
-  operands-any p zero = refl
-  operands-any p (suc j) = rw (operands-any p j)
+-- two pools have the same code and the same fields at a place
+pub record Alike (P Q : Pool) (p : ℕ) : Type 0 where
+  pub code-same : code P p ≡ code Q p
+  pub field-same : (j : ℕ) → j < 2 → field P p j ≡ field Q p j
 
-  operands-all : (k : ℕ) → operands (pool c s v) k ≡ operands (pool c s w) k
-  unfolding operands
-  operands-all k = ap (λ (l : List ℕ). elim (ltb (getD c k 0) nayNode) [ true ↦ [] | false ↦ l ]) (operands-any k (fields (getD c k 0)))
+-- pools that have them below k pass the test there alike: it looks at no values
+fields-most : (c : ℕ) → fields c ≤ 2
+fields-most c = either (λ n. n ≤ 2) (ltb c pairOp) (omega arith) (either (λ n. n ≤ 2) (ltb c ternaryNode) (omega arith) (omega arith))
 
-  used-any : (k : ℕ) → used (pool c s v) k ≡ used (pool c s w) k
-  unfolding used
-  used-any zero = refl
-  used-any (suc k) = rw (operands-all k, used-any k)
+operands-to : (P Q : Pool) (p a : ℕ) → a ≤ 2 → Alike P Q p → operandsTo P p a ≡ operandsTo Q p a
+unfolding operandsTo
+operands-to P Q p zero h s = refl
+operands-to P Q p (suc a) h s = rw (s .field-same a (omega arith), operands-to P Q p a (omega arith) s)
 
-  shaped-any : (k : ℕ) → shaped (pool c s v) k ≡ shaped (pool c s w) k
-  unfolding shaped
-  shaped-any zero = refl
-  shaped-any (suc k) = rw (operands-all k, shaped-any k)
+operands-same : (P Q : Pool) (p : ℕ) → Alike P Q p → operands P p ≡ operands Q p
+unfolding operands
+operands-same P Q p s =
+    split (ltb (code Q p) nayNode)
+    (λ e. rw (operands, s .code-same, e))
+    (λ e. rw (operands, s .code-same, e, s .code-same) (operands-to P Q p (fields (code Q p)) (fields-most (code Q p)) s))
 
-  pub tree-any : (count root : ℕ) → isTree (pool c s v) count root ≡ isTree (pool c s w) count root
-  unfolding isTree
-  tree-any count root = rw (shaped-any count, used-any count)
+pub used-same : (P Q : Pool) (k : ℕ) → ((i : ℕ) → i < k → Alike P Q i) → used P k ≡ used Q k
+unfolding used
+used-same P Q zero h = refl
+used-same P Q (suc k) h = rw (operands-same P Q k (h k (omega arith)), used-same P Q k (λ i j. h i (omega arith)))
+
+pub shaped-same : (P Q : Pool) (k : ℕ) → ((i : ℕ) → i < k → Alike P Q i) → shaped P k ≡ shaped Q k
+unfolding shaped
+shaped-same P Q zero h = refl
+shaped-same P Q (suc k) h =
+    rw (shaped-same P Q k (λ i j. h i (omega arith)), operands-same P Q k (h k (omega arith)), h k (omega arith) .code-same)
 
 -- what the test told
 pub told : (P : Pool) (count root : ℕ) {r b : Bool} → r ≡ isTree (pool (P .codes) (P .places) []) count root → r ≡ b → isTree P count root ≡ b
-told P count root e d = tree-any (P .codes) (P .places) (P .values) [] count root ∙ sym e ∙ d
+unfolding isTree
+told P count root e d =
+    let Q : Pool = pool (P .codes) (P .places) [] in
+    let s : (i : ℕ) → i < count → Alike P Q i = λ i h. record { code-same = refl; field-same = λ j l. refl } in
+    rw (shaped-same P Q count s, used-same P Q count s) (sym e ∙ d)

@@ -89,7 +89,7 @@ one-more P k c x y v l e b q h =
     let g : q ≤ k = omega arith in
     ⊎-elim
     (λ (d : q ≡ k). rw (d, pushed P k c x y v l .code-is) e)
-    (λ (j : q < k). rw (push-below P k c x y v q j .code-same) (b q j))
+    (λ (j : q < k). rw (push-below P k c x y v q j .alike .code-same) (b q j))
     (eq-or-lt-of-le g)
 
 keep-plain : (x : Packed) (k : ℕ) (P : Pool) → Long P (k + nodes x) → Written x → Below P k → Below (keep x k P) (k + nodes x)
