@@ -1,21 +1,22 @@
 -- The tree test place by place: what a mark says of an operand, what a failed operand or node says of the whole, and that the values
 -- are not looked at.
 use mathlib.Core.Path.{_≡_, refl, sym, ap, _∙_}
-use mathlib.Core.Bool.{Bool, true, false, not, _&&_, and-false}
+use mathlib.Core.Bool.{Bool, true, false, not, _&&_, and-false, and-assoc}
 use mathlib.Core.List.{List, [], _∷_, _++_}
-use mathlib.Core.Logic.{_⊎_, inl, inr, ⊎-elim}
+use mathlib.Core.Logic.{⊎-elim, by-cases}
 use Prim.Native.Nat.{ℕ, zero, suc, _+_, _-_, _<_, _≤_}
 use native.Mathlib.Omega.{arith}
 use native.Mathlib.Nat.{eq-or-lt-of-le, le-of-suc-le-suc}
 use native.Mathlib.Numerals.{add-one}
+use native.Mathlib.Decide.{ℕ-discrete}
 use lib.ListN.{length, getD, set, replicate, length-set, length-replicate, getD-replicate}
 use lib.Seq.{getD-set-same, getD-set-other}
 use lib.Dec.{leb, ltb, eqb}
-use borrow.Author.Tests.{lt-ltb, le-ltb, le-leb, lt-leb, leb-true, leb-false, ltb-true, eqb-true, eqb-false, eq-eqb, ne-eqb, not-false}
+use borrow.Author.Tests.{lt-ltb, le-ltb, le-leb, lt-leb, leb-true, leb-false, ltb-true, eq-eqb, ne-eqb, not-false}
 use Rattle.rules.specs.Pool.{Pool, code, field, known, fields, operandsTo, operands, allBelow, member, distinct, used, shaped, isTree, nayNode, pairOp, ternaryNode}
 use Rattle.rules_tree.specs.Private.{Unmarked, Marked, Took, Placed, Passes}
-use Rattle.rules.proofs.Operators.{never}
-use Rattle.rules.proofs.Trees.{both-left, both-right, member-head, member-tail}
+use Rattle.rules.proofs.Operators.{never, split}
+use Rattle.rules.proofs.Trees.{both-left, both-right, member-head, member-tail, both-fields}
 
 -- the answers of the test of one operand
 module _ {q x p : ℕ} (m : List ℕ) (e : q ≡ x) where
@@ -34,21 +35,9 @@ module _ {q x p : ℕ} (m : List ℕ) (e : q ≡ x) where
     marks = λ f. rw e;
   }
 
--- a mark more
-decide : (i q : ℕ) → (i ≡ q) ⊎ (i ≡ q → ⊥)
-decide i q = go (eqb i q) refl
-  where
-    go : (b : Bool) → eqb i q ≡ b → (i ≡ q) ⊎ (i ≡ q → ⊥)
-    go true e = inl (eqb-true i q e)
-    go false e = inr (eqb-false i q e)
-
 -- no place is marked at the start
 pub cleared : (n : ℕ) → Unmarked (replicate n 0)
 cleared n = record { none = λ q h. getD-replicate {A = ℕ} n q 0 0 (rw (length-replicate {A = ℕ} n 0) at h) }
-
-unmarked : {m : List ℕ} → Unmarked m → Marked m []
-unfolding member distinct
-unmarked k = record { says = λ q h. rw (k .none q h); apart = refl }
 
 -- an operand that was taken lies below its parent, and is one of the marked now
 module _ {q p : ℕ} {m n xs : List ℕ} {r : Bool} (k : Marked m xs) (few : p ≤ length m) (t : Took q p m n r) where
@@ -58,51 +47,29 @@ module _ {q p : ℕ} {m n xs : List ℕ} {r : Bool} (k : Marked m xs) (few : p �
       let l : q < p = ltb-true q p (both-left (ltb q p) _ d) in
       (l, sym (k .says q (omega arith)) ∙ ap not (both-right (ltb q p) _ d))
 
-  pub taken-below : r ≡ true → q < p
-  taken-below e = taken-fresh e .0
-
-  pub taken-marked : r ≡ true → Marked n (q ∷ xs)
+  taken-marked : r ≡ true → Marked n (q ∷ xs)
   unfolding distinct
-  taken-marked e = record { says = λ i h. rw w (marked-at i (rw (w, length-set) at h) (decide i q)); apart = rw (taken-fresh e .1) (k .apart) }
-    where
-      w : n ≡ set m q 1
-      w = t .marks e
-
-      l : q < length m
-      l = omega (arith, taken-fresh e .0)
-
-      marked-at : (i : ℕ) → i < length m → (i ≡ q) ⊎ (i ≡ q → ⊥) → not (eqb (getD (set m q 1) i 0) 0) ≡ member i (q ∷ xs)
-      marked-at i h (inl d) = rw (d, getD-set-same m q 1 0 l, member-head q q xs refl)
-      marked-at i h (inr d) = rw (getD-set-other m q i 1 0 d, member-tail q i xs d) (k .says i h)
-
-  pub taken-long : r ≡ true → length n ≡ length m
-  taken-long e = rw (t .marks e, length-set)
+  taken-marked e =
+      let w : n ≡ set m q 1 = t .marks e in
+      let l : q < length m = omega (arith, taken-fresh e .0) in
+      record {
+        says = λ i h. rw w (by-cases (ℕ-discrete i q)
+            (λ d. rw (d, getD-set-same m q 1 0 l, member-head q q xs refl))
+            (λ d. rw (getD-set-other m q i 1 0 d, member-tail q i xs d) (k .says i (rw (w, length-set) at h))));
+        apart = rw (taken-fresh e .1) (k .apart);
+      }
 
   -- one that was not is not below its parent, or is an operand already
-  pub untaken : r ≡ false → (ltb q p && not (member q xs)) ≡ false
-  untaken e = go (ltb q p) refl
-    where
-      go : (b : Bool) → ltb q p ≡ b → (b && not (member q xs)) ≡ false
-      go true f =
-          let l : q < p = ltb-true q p f in
-          let z : eqb (getD m q 0) 0 ≡ false = rw f at (sym (t .answer) ∙ e) in
-          rw (← k .says q (omega arith), z)
-      go false f = refl
+  untaken : r ≡ false → (ltb q p && not (member q xs)) ≡ false
+  untaken e =
+      split (ltb q p)
+      (λ f. rw (f, ← k .says q (omega (arith, ltb-true q p f)), rw f at (sym (t .answer) ∙ e)))
+      (λ f. rw f)
 
-and-drop : (x b y d : Bool) → (x && y) ≡ false → ((x && b) && (y && d)) ≡ false
-and-drop true true y d e = rw e
-and-drop true false y d e = refl
-and-drop false b y d e = refl
-
-and-keep : (x b y d : Bool) → (b && d) ≡ false → ((x && b) && (y && d)) ≡ false
-and-keep true true y d e = rw e (and-false y)
-and-keep true false y d e = refl
-and-keep false b y d e = refl
-
-and-split : (s k a d : Bool) → (k && (a && d)) ≡ false → ((s && (k && a)) && d) ≡ false
-and-split true true a d e = e
-and-split true false a d e = refl
-and-split false k a d e = refl
+and-swap : (x b y d : Bool) → ((x && b) && (y && d)) ≡ ((x && y) && (b && d))
+and-swap true true y d = refl
+and-swap true false y d = sym (and-false y)
+and-swap false b y d = refl
 
 -- the place before a node and the operands in its fields before the j-th were taken
 pub record Taken (P : Pool) (p j : ℕ) (l m : List ℕ) : Type 0 where
@@ -119,8 +86,8 @@ module _ (P : Pool) (p : ℕ) where
   operand-fails zero j h e = absurd (omega arith)
   operand-fails (suc a) j h e =
       ⊎-elim
-      (λ q. and-drop (ltb (field P p a) p) _ (not (member (field P p a) (operandsTo P p a ++ used P p))) _ (rw q at e))
-      (λ l. and-keep (ltb (field P p a) p) _ (not (member (field P p a) (operandsTo P p a ++ used P p))) _ (operand-fails a j l e))
+      (λ q. rw (and-swap, rw q at e))
+      (λ l. rw (and-swap, operand-fails a j l e, and-false))
       (eq-or-lt-of-le (le-of-suc-le-suc h))
 
 -- no node below k has taken the last place below it or one after that
@@ -149,16 +116,6 @@ module _ (P : Pool) (p : ℕ) where
   unfolding operands
   has-operands h = rw (operands, le-ltb (code P p) nayNode h)
 
-  pub some-fields : pairOp ≤ code P p → 0 < fields (code P p)
-  some-fields h = rw (fields, le-ltb (code P p) pairOp h) (go (ltb (code P p) ternaryNode))
-    where
-      go : (b : Bool) → 0 < elim b [ true ↦ 1 | false ↦ 2 ]
-      go true = omega arith
-      go false = omega arith
-
-  both-fields : ternaryNode ≤ code P p → 2 ≡ fields (code P p)
-  both-fields h = rw (fields, le-ltb (code P p) pairOp (omega arith), le-ltb (code P p) ternaryNode h)
-
 module _ (P : Pool) (p : ℕ) {l : List ℕ} where
   pub before-taken : 0 < p → p < length l → shaped P p ≡ true → Marked l (used P p) → Taken P p 0 l (set l (p - 1) 1)
   unfolding operandsTo allBelow
@@ -178,9 +135,9 @@ module _ (P : Pool) (p : ℕ) {l : List ℕ} where
   one-more j {m} k t e =
       let few : p ≤ length m = omega (arith, k .room, k .long) in
       record {
-        lower = rw (add-one, lt-ltb _ _ (taken-below (k .marked) few t e), k .lower);
+        lower = rw (add-one, lt-ltb _ _ (taken-fresh (k .marked) few t e .0), k .lower);
         marked = rw add-one (taken-marked (k .marked) few t e);
-        long = taken-long (k .marked) few t e ∙ k .long;
+        long = rw (t .marks e, length-set) (k .long);
         room = k .room;
       }
 
@@ -224,8 +181,8 @@ module _ (P : Pool) (p : ℕ) {l : List ℕ} where
 
   -- a third operand is the last, so it decides
   pub third-decides : (r : Bool) {m n : List ℕ} → code P p ≡ ternaryNode → Taken P p 1 l m → Took (field P p 1) p m n r → Placed P p l n r
-  third-decides true h k t = placed 2 (omega arith) (omega arith) (both-fields P p (omega arith)) (one-more 1 k t refl)
-  third-decides false h k t = refused 1 (omega arith) (rw (← both-fields P p (omega arith)) (omega arith)) k t refl
+  third-decides true h k t = placed 2 (omega arith) (omega arith) (sym (both-fields (code P p) (omega arith))) (one-more 1 k t refl)
+  third-decides false h k t = refused 1 (omega arith) (rw (both-fields (code P p) (omega arith)) (omega arith)) k t refl
 
 distinct-tail : (ys zs : List ℕ) → distinct zs ≡ false → distinct (ys ++ zs) ≡ false
 unfolding distinct
@@ -239,8 +196,8 @@ pub record Passed (P : Pool) (k : ℕ) (m : List ℕ) : Type 0 where
 
 module _ (P : Pool) where
   pub none-passed : {m : List ℕ} → Unmarked m → Passed P 0 m
-  unfolding shaped used
-  none-passed k = record { whole = refl; marked = unmarked k }
+  unfolding shaped used member distinct
+  none-passed k = record { whole = refl; marked = record { says = λ q h. rw (k .none q h); apart = refl } }
 
   pub one-passed : (p : ℕ) {m n : List ℕ} {r : Bool} → Passed P p m → Placed P p m n r → r ≡ true → Passed P (p + 1) n
   unfolding shaped used
@@ -259,27 +216,23 @@ module _ (P : Pool) where
   whole-fails k (suc p) h e =
       ⊎-elim
       (λ q. rw q at e)
-      (λ l. go (shaped P p) (known (code P p) && allBelow p (operands P p)) (whole-fails k p (le-of-suc-le-suc l) e))
+      (λ l. let f = whole-fails k p (le-of-suc-le-suc l) e in
+      split (shaped P p) (λ s. rw (s, distinct-tail (operands P p) (used P p) (rw s at f), and-false)) (λ s. rw s))
       (eq-or-lt-of-le h)
-    where
-      go : (s b : Bool) → (s && distinct (used P p)) ≡ false → ((s && b) && distinct (operands P p ++ used P p)) ≡ false
-      go true b f = rw (distinct-tail (operands P p) (used P p) f) (and-false b)
-      go false b f = refl
 
   -- the answers of the test of all nodes
   pub stopped : {m n : List ℕ} {r : Bool} (k p : ℕ) → p < k → Placed P p m n r → r ≡ false → Passes P k p
   unfolding shaped used
   stopped k p h t e = record {
     all = λ d. absurd (omega arith);
-    fails = λ d. whole-fails (suc p) k h (and-split (shaped P p) (known (code P p)) (allBelow p (operands P p)) _ (sym (t .answer) ∙ e));
+    fails = λ d. whole-fails (suc p) k h (rw (and-assoc, and-assoc, sym (t .answer) ∙ e) (and-false (shaped P p)));
   }
 
   pub passed : {m : List ℕ} (k p : ℕ) → k ≤ p → Passed P p m → Passes P k p
-  passed k p h t = record { all = λ d. go (shaped P k && distinct (used P k)) refl; fails = λ d. absurd (omega arith) }
-    where
-      go : (b : Bool) → (shaped P k && distinct (used P k)) ≡ b → b ≡ true
-      go true f = refl
-      go false f = sym (whole-fails k p h f) ∙ rw (t .whole, t .marked .apart)
+  passed k p h t = record {
+    all = λ d. split _ (λ f. f) (λ f. f ∙ sym (whole-fails k p h f) ∙ rw (t .whole, t .marked .apart));
+    fails = λ d. absurd (omega arith);
+  }
 
 -- the answers of the tree test
 module _ (P : Pool) (count root : ℕ) where
@@ -293,8 +246,6 @@ module _ (P : Pool) (count root : ℕ) where
 
   pub tested : {r : ℕ} → count ≤ 512 → root < count → Passes P count r → leb count r ≡ isTree P count root
   unfolding isTree
-  tested {r} h l t = rw (le-leb count 512 h, lt-ltb root count l) (go (leb count r) refl)
-    where
-      go : (b : Bool) → leb count r ≡ b → b ≡ (shaped P count && distinct (used P count))
-      go true e = sym (t .all (leb-true count r e))
-      go false e = sym (t .fails (leb-false count r e))
+  tested {r} h l t =
+      rw (le-leb count 512 h, lt-ltb root count l)
+      (split (leb count r) (λ e. e ∙ sym (t .all (leb-true count r e))) (λ e. e ∙ sym (t .fails (leb-false count r e))))

@@ -1,14 +1,15 @@
 -- A run of nodes: what its walk down knows at each step, that it ends above place 0, and what a sound place knows of its run.
 use Prim.Native.Nat.{ℕ, suc, _+_, _<_, _≤_}
-use mathlib.Core.Path.{_≡_, refl, sym, _∙_}
-use mathlib.Core.Bool.{Bool, true, false}
+use mathlib.Core.Path.{_≡_, sym, _∙_}
+use mathlib.Core.Bool.{true, false}
 use mathlib.Core.List.{List}
-use mathlib.Core.Logic.{⊎-elim}
+use mathlib.Core.Logic.{⊎-elim, by-cases}
 use native.Mathlib.Omega.{arith}
 use native.Mathlib.Nat.{eq-or-lt-of-le}
+use native.Mathlib.Decide.{decLt}
 use lib.ListN.{getD}
 use lib.Dec.{leb, ltb}
-use borrow.Author.Tests.{leb-true, ltb-true, le-leb, lt-ltb, ltb-false}
+use borrow.Author.Tests.{leb-true, ltb-true, le-leb, lt-ltb}
 use Rattle.rules.specs.Pool.{Pool, code, nayNode, ternaryNode}
 use Rattle.rules.specs.Promise.{Sound}
 use Rattle.rules.proofs.Operators.{never}
@@ -41,12 +42,10 @@ module _ {codes : List ℕ} {p e q : ℕ} (r : Run codes p e q) where
 
 -- two places that a run stands on are one
 pub one-base : {codes : List ℕ} {p e q r : ℕ} → Stands codes p e q → Stands codes p e r → q ≡ r
-one-base {codes} {p} {e} {q} {r} s t = go (ltb q r) (ltb r q) refl refl
-  where
-    go : (a b : Bool) → ltb q r ≡ a → ltb r q ≡ b → q ≡ r
-    go true b f g = never (sym (t .stops) ∙ s .run .all r (ltb-true q r f) (t .run .below))
-    go false true f g = never (sym (s .stops) ∙ t .run .all q (ltb-true r q g) (s .run .below))
-    go false false f g = let h = ltb-false q r f in let k = ltb-false r q g in omega arith
+one-base {codes} {p} {e} {q} {r} s t =
+    by-cases (decLt q r)
+    (λ f. never (sym (t .stops) ∙ s .run .all r f (t .run .below)))
+    (λ f. by-cases (decLt r q) (λ g. never (sym (s .stops) ∙ t .run .all q g (s .run .below))) (λ g. omega arith))
 
 -- at a sound place
 module _ {P : Pool} {p : ℕ} (s : Sound P p) where
@@ -55,19 +54,12 @@ module _ {P : Pool} {p : ℕ} (s : Sound P p) where
 
   -- place 0 holds a leaf
   pub leaf-first : code P 0 < nayNode
-  leaf-first = go (ltb (code P 0) nayNode) refl
-    where
-      go : (b : Bool) → ltb (code P 0) nayNode ≡ b → code P 0 < nayNode
-      go true e = ltb-true (code P 0) nayNode e
-      go false e = let h = before-in (down-to (omega arith)) (ltb-false (code P 0) nayNode e) in absurd (omega arith)
+  leaf-first =
+      by-cases (decLt (code P 0) nayNode) (λ e. e) (λ e. let h = before-in {p = 0} (down-to (omega arith)) (omega arith) in absurd (omega arith))
 
   -- so does what a run of all nodes with operands stands on
   pub leaf-last : {q : ℕ} → Stands (P .codes) p (ternaryNode + 1) q → code P q < nayNode
-  leaf-last {q} t = go (ltb (code P q) nayNode) refl
-    where
-      go : (b : Bool) → ltb (code P q) nayNode ≡ b → code P q < nayNode
-      go true e = ltb-true (code P q) nayNode e
-      go false e =
-          let l = ltb-false (code P q) nayNode e in
-          let h = known-in (down-to (t .run .below)) in
-          never (sym (t .stops) ∙ rw (above, le-leb nayNode (code P q) l, lt-ltb (code P q) (ternaryNode + 1) (omega arith)))
+  leaf-last {q} t =
+      let h = known-in (down-to (t .run .below)) in
+      by-cases (decLt (code P q) nayNode) (λ e. e)
+      (λ e. never (sym (t .stops) ∙ rw (above, le-leb nayNode (code P q) (omega arith), lt-ltb (code P q) (ternaryNode + 1) (omega arith))))

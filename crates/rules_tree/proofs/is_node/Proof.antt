@@ -8,7 +8,8 @@ use native.Mathlib.Omega.{arith}
 use denote.Ref.{now}
 use borrow.Author.Tests.{not-true, not-false}
 use Rattle.rules.specs.Pool.{Pool, pool}
-use Rattle.rules_tree.proofs.Marks.{Taken, before-taken, one-more, leaf, first, unknown, refused, one-operand, two-operands, some-fields, third-decides}
+use Rattle.rules.proofs.Trees.{some-fields}
+use Rattle.rules_tree.proofs.Marks.{Taken, before-taken, one-more, leaf, first, unknown, refused, one-operand, two-operands, third-decides}
 use borrow.Author.Needs.{needs}
 use Rattle.rules_tree.proofs.is_node.Statement.{statement}
 use Rattle.rules_tree.proofs.is_node.Tie as tie
@@ -51,7 +52,7 @@ same-length-2 : tie.Need-same-length-2
 same-length-2 c = let s : tie.Start = c .before .before .before .before .before .before .before .before .before .before in c .before .before .before .takes .kept .1 .0 ∙ marked-long s
 
 returns-4 : tie.Need-returns-4
-returns-4 c = let s : tie.Start = c .before .before .before .before .before .before .before .before .before .before in refused (P s) (s .args .p) 0 (c .before .before .before .before .before .before .before .if1 .left) (some-fields (P s) (s .args .p) (c .before .before .before .before .before .if3 .left)) (at-before s (c .before .before .before .before .before .before .if2 .left)) (c .before .before .before .takes .ensures) (not-true _ (c .if4 .taken))
+returns-4 c = let s : tie.Start = c .before .before .before .before .before .before .before .before .before .before in refused (P s) (s .args .p) 0 (c .before .before .before .before .before .before .before .if1 .left) (some-fields _ (c .before .before .before .before .before .if3 .left)) (at-before s (c .before .before .before .before .before .before .if2 .left)) (c .before .before .before .takes .ensures) (not-true _ (c .if4 .taken))
 
 same-length-3 : tie.Need-same-length-3
 same-length-3 c = let s : tie.Start = c .before .before .before .before .before .before .before .before .before .before .before in c .before .before .before .before .takes .kept .1 .0 ∙ marked-long s
