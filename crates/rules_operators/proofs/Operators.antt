@@ -1,11 +1,13 @@
 -- Laws of the binary operators by their numbers, as an evaluation asks for them.
 use mathlib.Core.Path.{_≡_, refl, sym}
-use mathlib.Core.Bool.{Bool, true, false}
+use mathlib.Core.Bool.{true, false}
 use mathlib.Core.Option.{Option, none, some}
+use mathlib.Core.Logic.{by-cases}
 use Prim.Native.Nat.{ℕ, _+_, _-_, _%_, _^_, _<_, _≤_}
 use native.Mathlib.Omega.{arith}
+use native.Mathlib.Decide.{ℕ-discrete}
 use lib.Dec.{eqb}
-use borrow.Author.Tests.{not-true, not-false, eqb-true, eqb-false}
+use borrow.Author.Tests.{not-true, not-false}
 use Rattle.rules.specs.declared.Value.{Value}
 use Rattle.rules.specs.declared.Value.the-variants.{Is, ZeroModulus}
 use Rattle.rules.specs.Tree.{Op, cmp, calc, and, or, rem, div, Cmp, eq, ne, ge, le, gt, lt, Calc, plus, minus, times}
@@ -71,22 +73,10 @@ calc-rest i plus e h1 h2 = absurd (h1 (sym (code-is i (calc plus) e)))
 calc-rest i minus e h1 h2 = absurd (h2 (sym (code-is i (calc minus) e)))
 calc-rest i times e h1 h2 = refl
 
--- those above have one operator each
-pub is-and : (i : ℕ) (op : Op) → opOf i ≡ some op → i ≡ 6 → op ≡ and
-unfolding opOf opAt
-is-and i op e h = let d : opOf 6 ≡ some op = rw h at e in cc
-
-pub is-or : (i : ℕ) (op : Op) → opOf i ≡ some op → i ≡ 7 → op ≡ or
-unfolding opOf opAt
-is-or i op e h = let d : opOf 7 ≡ some op = rw h at e in cc
-
+-- 9 is the number of /
 pub is-div : (i : ℕ) (op : Op) → opOf i ≡ some op → 7 < i → i < 10 → (i ≡ 8 → ⊥) → op ≡ div
 unfolding opOf opAt
 is-div i op e h l n = op-at i 9 e (omega arith) refl
-
-pub is-rem : (i : ℕ) (op : Op) → opOf i ≡ some op → i ≡ 8 → op ≡ rem
-unfolding opOf opAt
-is-rem i op e h = op-at i 8 e h refl
 
 -- what a difference that wraps is
 pub differs : (x y r : ℕ) → (r + y) % 2 ^ 64 ≡ x → r < 2 ^ 64 → x < 2 ^ 64 → y < 2 ^ 64 → r ≡ (2 ^ 64 + x - y) % 2 ^ 64
@@ -94,12 +84,8 @@ differs x y r e h k l = omega arith
 
 -- a zero divisor
 pub by-zero : (i : ℕ) (op : Op) (x : ℕ) → opOf i ≡ some op → 7 < i → i < 10 → binary op (Is x) (Is 0) ≡ ZeroModulus
-unfolding binary
-by-zero i op x e h l = go (eqb i 8) refl
-  where
-    go : (b : Bool) → eqb i 8 ≡ b → binary op (Is x) (Is 0) ≡ ZeroModulus
-    go true q = rw (is-rem i op e (eqb-true i 8 q))
-    go false q = rw (is-div i op e h l (eqb-false i 8 q))
+unfolding binary opOf opAt
+by-zero i op x e h l = by-cases (ℕ-discrete i 8) (λ q. rw (op-at i 8 e q refl)) (λ q. rw (is-div i op e h l q))
 
 -- only && and || are settled by their left operand
 pub settled-rest : (i x : ℕ) → (i ≡ 6 → ⊥) → (i ≡ 7 → ⊥) → settledBy (opOf i) x ≡ false

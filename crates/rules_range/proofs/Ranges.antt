@@ -1,26 +1,26 @@
 -- The answers of a rating at a place of a pool, by its code and its operands' ranges.
 use mathlib.Core.Path.{_≡_, refl, sym, _∙_}
-use mathlib.Core.Bool.{Bool, true, false}
+use mathlib.Core.Bool.{Bool, true}
 use mathlib.Core.List.{List}
+use mathlib.Core.Logic.{by-cases}
 use mathlib.Core.Option.{some}
 use Prim.Native.Nat.{ℕ, _+_, _-_, _*_, _/_, _^_, _<_, _≤_, min, max}
 use native.Mathlib.Omega.{arith}
 use native.Mathlib.Nat.{mul-zero, le-div-iff-mul-le}
+use native.Mathlib.Decide.{ℕ-discrete, decLe, decLt}
 use lib.Dec.{ltb, leb, eqb}
-use borrow.Author.Tests.{ltb-true, ltb-false, leb-true, leb-false, eqb-true, eqb-false, lt-ltb, le-ltb, le-leb, lt-leb, eq-eqb, ne-eqb}
+use borrow.Author.Tests.{ltb-true, ltb-false, lt-ltb, le-ltb, le-leb, lt-leb, eq-eqb, ne-eqb}
 use Rattle.rules.specs.declared.Rating.{Rating}
 use Rattle.rules.specs.declared.Rating.the-variants.{Range, Unrated}
-use Rattle.rules.specs.Tree.{Op, cmp, calc, and, or, rem, div, var, int, nay, bin, cond, plus, minus, times}
-use Rattle.rules.specs.Operator.{opOf, opCode}
-use Rattle.rules.specs.Range.{fullRange, rateTree, kept, opRange, notRange, binRange, condRange}
-use Rattle.rules.specs.Pool.{Pool, code, field, value, leaf, one, two, joined, treeOf, nOp, restOp, nayNode, valueOp, pairOp, choiceNode, ternaryNode}
-use Rattle.rules.specs.Promise.{Sound}
-use Rattle.rules.proofs.Operators.{named, code-is}
+use Rattle.rules.specs.Tree.{Op, cmp, calc, and, or, rem, div, var, int, bin, cond, plus, minus, times}
+use Rattle.rules.specs.Operator.{opOf, opAt, opCode}
+use Rattle.rules.specs.Range.{fullRange, rateTree, opRange, notRange, binRange, condRange}
+use Rattle.rules.specs.Pool.{Pool, code, field, value, leaf, one, two, treeOf, nOp, restOp, nayNode, valueOp, pairOp, choiceNode, ternaryNode}
+use Rattle.rules.proofs.Operators.{split, named, code-is, op-at}
 use Rattle.rules.proofs.InRange.{ordered}
-use Rattle.rules_operators.proofs.Operators.{is-rem, is-div}
+use Rattle.rules_operators.proofs.Operators.{is-div}
 use Rattle.rules.proofs.Trees.{tree-leaf, tree-one, tree-two, tree-three, leaf-op, leaf-rest, one-op, two-op}
 use Rattle.rules_tree.specs.Promise.{Run}
-use Rattle.rules_tree.proofs.Runs.{down-to}
 use Rattle.rules_range.specs.Private.{Joins, fromTo, Lifts}
 
 abbrev pub Count : Rating
@@ -42,58 +42,22 @@ truths i (calc times) k h l m e b = let d = code-is i (calc times) e in absurd (
 pub zero-fits : (x y : ℕ) → y ≡ 0 → ltb (x * y) (2 ^ 64) ≡ true
 zero-fits x y e = lt-ltb (x * y) (2 ^ 64) (let z : x * y ≡ 0 = rw e (mul-zero x) in omega arith)
 
-pub fits-by : (x y : ℕ) → (y ≡ 0 → ⊥) → x ≤ 18446744073709551615 / y → ltb (x * y) (2 ^ 64) ≡ true
-fits-by x y n h = let d = le-div-iff-mul-le {k = y} {x = x} {y = 18446744073709551615} (omega arith) .0 h in lt-ltb (x * y) (2 ^ 64) (omega arith)
-
-pub fits-not : (x y : ℕ) → (y ≡ 0 → ⊥) → 18446744073709551615 / y < x → ltb (x * y) (2 ^ 64) ≡ false
-fits-not x y n h = le-ltb (x * y) (2 ^ 64) (go (ltb (x * y) (2 ^ 64)) refl)
-  where
-    go : (b : Bool) → ltb (x * y) (2 ^ 64) ≡ b → 2 ^ 64 ≤ x * y
-    go true e = let d = ltb-true (x * y) (2 ^ 64) e in let g = le-div-iff-mul-le {k = y} {x = x} {y = 18446744073709551615} (omega arith) .1 (omega arith) in absurd (omega arith)
-    go false e = ltb-false (x * y) (2 ^ 64) e
-
 pub fits-low : (x y : ℕ) {b : Bool} → b ≡ ltb (x * y) (2 ^ 64) → b ≡ true → x * y < 2 ^ 64
 fits-low x y e d = ltb-true (x * y) (2 ^ 64) (sym e ∙ d)
 
 pub fits-told : (x y : ℕ) → (y ≡ 0 → ⊥) → leb x (18446744073709551615 / y) ≡ ltb (x * y) (2 ^ 64)
-fits-told x y n = go (leb x (18446744073709551615 / y)) refl
-  where
-    go : (b : Bool) → leb x (18446744073709551615 / y) ≡ b → leb x (18446744073709551615 / y) ≡ ltb (x * y) (2 ^ 64)
-    go true e = e ∙ sym (fits-by x y n (leb-true x (18446744073709551615 / y) e))
-    go false e = e ∙ sym (fits-not x y n (leb-false x (18446744073709551615 / y) e))
+fits-told x y n =
+    let w = le-div-iff-mul-le {k = y} {x = x} {y = 18446744073709551615} (omega arith) in
+    by-cases (decLt (x * y) (2 ^ 64))
+    (λ h. le-leb x (18446744073709551615 / y) (w .1 (omega arith)) ∙ sym (lt-ltb (x * y) (2 ^ 64) h))
+    (λ h. lt-leb x (18446744073709551615 / y) (by-cases (decLe x (18446744073709551615 / y)) (λ l. let d = w .0 l in absurd (omega arith)) (λ l. omega arith))
+    ∙ sym (le-ltb (x * y) (2 ^ 64) (omega arith)))
 
 -- a divisor whose lowest is 0
 pub by-zero : (i : ℕ) (op : Op) (k h l m : ℕ) → opOf i ≡ some op → 7 < i → i < 10 → l ≡ 0 → opRange op k h l m ≡ Unrated
-unfolding opRange
-by-zero i op k h l m e b c z = go (eqb i 8) refl
-  where
-    go : (x : Bool) → eqb i 8 ≡ x → opRange op k h l m ≡ Unrated
-    go true q = rw (is-rem i op e (eqb-true i 8 q), eq-eqb l 0 z)
-    go false q = rw (is-div i op e b c (eqb-false i 8 q), eq-eqb l 0 z)
-
-pub plus-kept : (k h l m : ℕ) → h + m < 2 ^ 64 → Range (k + l) (h + m) ≡ opRange (calc plus) k h l m
-unfolding opRange kept
-plus-kept k h l m e = rw (lt-ltb (h + m) (2 ^ 64) e)
-
-pub plus-full : (k h l m : ℕ) → 2 ^ 64 ≤ h + m → Count ≡ opRange (calc plus) k h l m
-unfolding opRange kept
-plus-full k h l m e = rw (le-ltb (h + m) (2 ^ 64) e)
-
-pub minus-kept : (k h l m : ℕ) → m ≤ k → h - l < 2 ^ 64 → Range (k - m) (h - l) ≡ opRange (calc minus) k h l m
-unfolding opRange kept
-minus-kept k h l m e d = rw (le-leb m k e, lt-ltb (h - l) (2 ^ 64) d)
-
-pub minus-full : (k h l m : ℕ) → k < m → Count ≡ opRange (calc minus) k h l m
-unfolding opRange
-minus-full k h l m e = rw (lt-leb m k e)
-
-pub times-kept : (k h l m : ℕ) → ltb (h * m) (2 ^ 64) ≡ true → Range (k * l) (h * m) ≡ opRange (calc times) k h l m
-unfolding opRange kept
-times-kept k h l m e = rw e
-
-pub times-full : (k h l m : ℕ) → ltb (h * m) (2 ^ 64) ≡ false → Count ≡ opRange (calc times) k h l m
-unfolding opRange kept
-times-full k h l m e = rw e
+unfolding opRange opOf opAt
+by-zero i op k h l m e b c z =
+    by-cases (ℕ-discrete i 8) (λ q. rw (op-at i 8 e q refl, eq-eqb l 0 z)) (λ q. rw (is-div i op e b c q, eq-eqb l 0 z))
 
 -- a range as two numbers
 pub range-of : (l h : ℕ) → l ≤ h → fromTo l h ≡ Range l h
@@ -207,15 +171,12 @@ module _ (P : Pool) (p : ℕ) where
     -- an operand that has none
     pub rate-none : nayNode ≤ code P p → code P p < pairOp → b ≡ Unrated → b ≡ ra p
     unfolding rateTree notRange condRange binRange
-    rate-none h l e = e ∙ rw (tree-one P p h l a, one) (go (eqb (code P p) nayNode) (ltb (code P p) valueOp))
-      where
-        u : Unrated ≡ ra (p - 1)
-        u = sym e ∙ g
-
-        go : (i j : Bool) → Unrated ≡ rateTree (elim i [ true ↦ nay (treeOf P (p - 1)) | false ↦ elim j [ true ↦ cond (treeOf P (p - 1)) (int (value P p)) (int (field P p 0)) | false ↦ joined (opOf (code P p - valueOp)) (treeOf P (p - 1)) (int (value P p)) ] ])
-        go true j = rw (← u)
-        go false true = rw (← u)
-        go false false = rw (named (code P p - valueOp) (omega arith) .is, ← u)
+    rate-none h l e =
+        let u : Unrated ≡ ra (p - 1) = sym e ∙ g in
+        e ∙ split (eqb (code P p) nayNode) (λ i. rw (tree-one P p h l a, one, i, ← u))
+        (λ i. split (ltb (code P p) valueOp)
+        (λ j. rw (tree-one P p h l a, one, i, j, ← u))
+        (λ j. rw (tree-one P p h l a, one, i, j, named (code P p - valueOp) (omega arith) .is, ← u)))
 
     pub rate-picked : {v m r : Rating} → nayNode ≤ code P p → (code P p ≡ nayNode → ⊥) → code P p < valueOp → v ≡ Value → m ≡ Small → r ≡ condRange b v m → r ≡ ra p
     unfolding rateTree
@@ -240,14 +201,11 @@ module _ (P : Pool) (p : ℕ) where
       -- a condition that has none
       pub rate-no-condition : choiceNode ≤ code P p → (ternaryNode ≤ code P p → field P p 1 < p) → {m n : ℕ} → x ≡ Unrated → (m ≡ 1) × (n ≡ 0) → fromTo m n ≡ ra p
       unfolding rateTree condRange
-      rate-no-condition h s e d = none-by d ∙ go (ltb (code P p) ternaryNode) refl
-        where
-          u : Unrated ≡ ra (field P p 0)
-          u = sym e ∙ i
-
-          go : (j : Bool) → ltb (code P p) ternaryNode ≡ j → Unrated ≡ ra p
-          go true q = rw (tree-two P p (omega arith) (ltb-true (code P p) ternaryNode q) a f, two, le-ltb (code P p) choiceNode h, ← u)
-          go false q = let j : ternaryNode ≤ code P p = ltb-false (code P p) ternaryNode q in rw (tree-three P p j a f (s j), ← u)
+      rate-no-condition h s e d =
+          let u : Unrated ≡ ra (field P p 0) = sym e ∙ i in
+          none-by d ∙ by-cases (decLt (code P p) ternaryNode)
+          (λ q. rw (tree-two P p (omega arith) q a f, two, le-ltb (code P p) choiceNode h, ← u))
+          (λ q. rw (tree-three P p (omega arith) a f (s (omega arith)), ← u))
 
       pub rate-chosen : {v r : Rating} → choiceNode ≤ code P p → code P p < ternaryNode → v ≡ Value → r ≡ condRange x v b → r ≡ ra p
       unfolding rateTree
@@ -260,13 +218,6 @@ module _ (P : Pool) (p : ℕ) where
 -- what was given at a place that is this one
 pub moved : (P : Pool) {l q : ℕ} {r : Rating} → r ≡ rateTree (treeOf P l) → l ≡ q → r ≡ rateTree (treeOf P q)
 moved P g e = rw (← e) g
-
-pub within : {P : Pool} {p : ℕ} → Sound P p → p < 512
-within s = omega (arith, s .inside, s .few)
-
--- an operand place lies below its parent's
-pub falls-to : {P : Pool} {p q x t : ℕ} → Sound P p → 2 * p ≡ t → x < p → q ≡ x → (2 * q + 1 < t) × Sound P q
-falls-to s e l d = (omega arith, down-to s (omega arith))
 
 -- up a run, node by node
 pub on-run : {codes : List ℕ} {p e q : ℕ} → Run codes p e q → q + 1 ≤ p → Run codes p e (q + 1)

@@ -1,5 +1,5 @@
 -- A run of nodes: what its walk down knows at each step, that it ends above place 0, and what a sound place knows of its run.
-use Prim.Native.Nat.{ℕ, suc, _+_, _<_, _≤_}
+use Prim.Native.Nat.{ℕ, suc, _+_, _*_, _<_, _≤_}
 use mathlib.Core.Path.{_≡_, sym, _∙_}
 use mathlib.Core.Bool.{true, false}
 use mathlib.Core.List.{List}
@@ -51,6 +51,13 @@ one-base {codes} {p} {e} {q} {r} s t =
 module _ {P : Pool} {p : ℕ} (s : Sound P p) where
   pub down-to : {q : ℕ} → q ≤ p → Sound P q
   down-to h = record { count = s .count; inside = omega (arith, s .inside); few = s .few; shape = s .shape }
+
+  pub inside : p < 512
+  inside = omega (arith, s .inside, s .few)
+
+  -- an operand place lies below its parent's, whichever of two functions is called for it
+  pub falls-to : {q x t : ℕ} → 2 * p ≡ t → x < p → q ≡ x → (2 * q + 1 < t) × Sound P q
+  falls-to e l d = (omega arith, down-to (omega arith))
 
   -- place 0 holds a leaf
   pub leaf-first : code P 0 < nayNode

@@ -2,13 +2,14 @@
 use mathlib.Core.Path.{_≡_, refl, sym, ap, _∙_}
 use mathlib.Core.Bool.{Bool, true, false}
 use mathlib.Core.List.{List}
-use mathlib.Core.Logic.{⊎-elim}
+use mathlib.Core.Logic.{⊎-elim, by-cases}
 use Prim.Native.Nat.{ℕ, _+_, _*_, _-_, _<_, _≤_}
 use native.Mathlib.Omega.{arith}
 use native.Mathlib.Nat.{eq-or-lt-of-le}
+use native.Mathlib.Decide.{decLt}
 use lib.ListN.{getD}
-use lib.Dec.{eqb, ltb}
-use borrow.Author.Tests.{le-leb, lt-ltb, le-ltb, ne-eqb, ltb-true, ltb-false}
+use lib.Dec.{eqb}
+use borrow.Author.Tests.{le-leb, lt-ltb, le-ltb, ne-eqb}
 use Rattle.rules.specs.declared.Value.{Value}
 use Rattle.rules.specs.declared.Value.the-variants.{Is, ZeroModulus}
 use Rattle.rules.specs.Tree.{Tree, rem}
@@ -21,7 +22,6 @@ use Rattle.rules_operators.proofs.Given.{number, fails-as, is-as, negation, fir
 use Rattle.rules.proofs.Operators.{named}
 use Rattle.rules.proofs.Trees.{tree-leaf, tree-one, tree-two, tree-three, leaf-op, leaf-rest, one-op, two-op}
 use Rattle.rules_tree.specs.Promise.{Run}
-use Rattle.rules_tree.proofs.Runs.{down-to}
 use Rattle.rules_value.specs.Private.{Lifts}
 
 settles : (i x : ℕ) {s b : Bool} (k : Named i) → s ≡ settledBy (opOf i) x → s ≡ b → settled (k .op) x ≡ b
@@ -81,14 +81,10 @@ module _ (P : Pool) (p n : ℕ) where
   module _ {b c : Bool} {x : ℕ} (a : p - 1 < p) (f : field P p 0 < p) (g : Gives (ev (field P p 0)) b c x) where
     pub at-no : {d : Bool} {r : ℕ} → choiceNode ≤ code P p → (ternaryNode ≤ code P p → field P p 1 < p) → x ≡ 0 → Gives (ev (p - 1)) c d r → Gives (ev p) b d r
     unfolding evalTree
-    at-no {d} {r} h s z k = go (ltb (code P p) ternaryNode) refl
-      where
-        go : (i : Bool) → ltb (code P p) ternaryNode ≡ i → Gives (ev p) b d r
-        go true e =
-            rw (tree-two P p (omega arith) (ltb-true (code P p) ternaryNode e) a f, two, le-ltb (code P p) choiceNode h) (second-arm _ _ _ g z k)
-        go false e =
-            let j : ternaryNode ≤ code P p = ltb-false (code P p) ternaryNode e in
-            rw (tree-three P p j a f (s j)) (second-arm _ _ _ g z k)
+    at-no h s z k =
+        by-cases (decLt (code P p) ternaryNode)
+        (λ e. rw (tree-two P p (omega arith) e a f, two, le-ltb (code P p) choiceNode h) (second-arm _ _ _ g z k))
+        (λ e. rw (tree-three P p (omega arith) a f (s (omega arith))) (second-arm _ _ _ g z k))
 
     pub at-chosen : {r : ℕ} → choiceNode ≤ code P p → code P p < ternaryNode → (x ≡ 0 → ⊥) → r ≡ value P p → Gives (ev p) b c r
     unfolding evalTree
@@ -129,13 +125,7 @@ lift-none = record { gives = λ n b g. g }
 pub lift-more : {P : Pool} {p q r x y z : ℕ} {c d e : Bool} → r - 1 ≡ q → Lifts P p q x c d y → Lifts P (r - 1) r y d e z → Lifts P p r x c e z
 lift-more f k l = record { gives = λ n b g. l .gives n b (rw f (k .gives n b g)) }
 
-pub inside : {P : Pool} {p : ℕ} → Sound P p → p < 512
-inside s = omega (arith, s .inside, s .few)
-
--- an operand place lies below its parent's, whichever of the two functions is called for it
-pub falls-to : {P : Pool} {p q x t : ℕ} → Sound P p → 2 * p ≡ t → x < p → q ≡ x → (2 * q + 1 < t) × Sound P q
-falls-to s e l d = (omega arith, down-to s (omega arith))
-
+-- the same for the other of the two functions
 pub lower : {P : Pool} {q t : ℕ} → (2 * q + 1 < t) × Sound P q → (2 * q < t) × Sound P q
 lower (l, s) = (omega arith, s)
 

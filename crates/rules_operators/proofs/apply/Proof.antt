@@ -5,7 +5,9 @@ use native.Mathlib.Omega.{arith}
 use borrow.Author.Needs.{needs}
 use Rattle.rules.specs.declared.Value.the-variants.{Is}
 use Rattle.rules.specs.Value.{binary, truthV}
-use Rattle.rules_operators.proofs.Operators.{low-cmp, high-calc, is-and, is-or, is-rem, is-div, by-zero}
+use Rattle.rules.specs.Operator.{opOf, opAt}
+use Rattle.rules.proofs.Operators.{op-at}
+use Rattle.rules_operators.proofs.Operators.{low-cmp, high-calc, is-div, by-zero}
 use Rattle.rules_operators.proofs.Given.{applied-number, applied-zero}
 use Rattle.rules_operators.proofs.apply.Statement.{statement}
 use Rattle.rules_operators.proofs.apply.Tie as tie
@@ -24,26 +26,26 @@ returns c =
     rw (k .is) (ap Is (sym (c .truth .ensures ∙ rw (c .before .compares .ensures .is (k .which) (rw (k .is) at e)))))
 
 returns-2 : tie.Need-returns-2
-unfolding binary
-returns-2 c = applied-number λ op e. rw (is-and _ op e (c .before .if2 .taken), eq-eqb _ _ (c .if3 .taken))
+unfolding binary opOf opAt
+returns-2 c = applied-number λ op e. rw (op-at _ 6 e (c .before .if2 .taken) refl, eq-eqb _ _ (c .if3 .taken))
 
 truth-requires-2 : tie.Need-truth-requires-2
 truth-requires-2 c κs = search needs
 
 returns-3 : tie.Need-returns-3
-unfolding binary truthV
-returns-3 c = applied-number λ op e. rw (is-and _ op e (c .before .before .if2 .taken), ne-eqb _ _ (c .before .if3 .left)) (ap Is (sym (c .truth2 .ensures)))
+unfolding binary opOf opAt truthV
+returns-3 c = applied-number λ op e. rw (op-at _ 6 e (c .before .before .if2 .taken) refl, ne-eqb _ _ (c .before .if3 .left)) (ap Is (sym (c .truth2 .ensures)))
 
 truth-requires-3 : tie.Need-truth-requires-3
 truth-requires-3 c κs = search needs
 
 returns-4 : tie.Need-returns-4
-unfolding binary truthV
-returns-4 c = applied-number λ op e. rw (is-or _ op e (c .before .before .if4 .taken), eq-eqb _ _ (c .before .if5 .taken)) (ap Is (sym (c .truth3 .ensures)))
+unfolding binary opOf opAt truthV
+returns-4 c = applied-number λ op e. rw (op-at _ 7 e (c .before .before .if4 .taken) refl, eq-eqb _ _ (c .before .if5 .taken)) (ap Is (sym (c .truth3 .ensures)))
 
 returns-5 : tie.Need-returns-5
-unfolding binary
-returns-5 c = applied-number λ op e. rw (is-or _ op e (c .before .if4 .taken), ne-eqb _ _ (c .if5 .left))
+unfolding binary opOf opAt
+returns-5 c = applied-number λ op e. rw (op-at _ 7 e (c .before .if4 .taken) refl, ne-eqb _ _ (c .if5 .left))
 
 calculates-requires : tie.Need-calculates-requires
 calculates-requires c κs = search needs
@@ -62,8 +64,8 @@ rem-result : tie.Need-rem-result
 rem-result c = search needs
 
 returns-8 : tie.Need-returns-8
-unfolding binary
-returns-8 c = applied-number λ op e. rw (is-rem _ op e (c .if8 .taken), ne-eqb _ _ (c .before .if7 .left))
+unfolding binary opOf opAt
+returns-8 c = applied-number λ op e. rw (op-at _ 8 e (c .if8 .taken) refl, ne-eqb _ _ (c .before .if7 .left))
 
 div-result : tie.Need-div-result
 div-result c = search needs

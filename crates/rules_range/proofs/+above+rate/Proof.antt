@@ -8,9 +8,9 @@ use Rattle.rules.specs.Range.{rateTree}
 use Rattle.rules.specs.Pool.{Pool, pool, value, treeOf, ternaryNode}
 use Rattle.rules.proofs.Trees.{before-in, first-in, second-in}
 use Rattle.rules_tree.specs.Promise.{Run}
-use Rattle.rules_tree.proofs.Runs.{low, down-to, leaf-first, leaf-last}
+use Rattle.rules_tree.proofs.Runs.{low, down-to, inside, falls-to, leaf-first, leaf-last}
 use Rattle.rules_range.specs.Private.{fromTo}
-use Rattle.rules_range.proofs.Ranges.{within, falls-to, moved, range-of, none-of, any-condition, rate-two, rate-no-condition, rate-chosen, rate-three, on-run, lift-on, ended}
+use Rattle.rules_range.proofs.Ranges.{moved, range-of, none-of, any-condition, rate-two, rate-no-condition, rate-chosen, rate-three, on-run, lift-on, ended}
 use Prim.Native.Nat.{ℕ, _<_, _+_, _-_, _*_}
 use borrow.Fn.Kinds.{In}
 use borrow.Fn.PlainCycle.{Measures, is, falls, and}
@@ -61,7 +61,7 @@ abbrev P : {t : ℕ} → Sa t → Pool
 P s = pool (now (s .args .codes)) (now (s .args .places)) (now (s .args .values))
 
 above-element-copy-out-code : (t : ℕ) → above-lts.Need-element-copy-out-code (R-above t) (above-at t) above.Post
-above-element-copy-out-code t c = let s : Sa t = c in within (s .pre .1 .0)
+above-element-copy-out-code t c = let s : Sa t = c in inside (s .pre .1 .0)
 
 above-one-requires : (t : ℕ) → above-lts.Need-one-requires (R-above t) (above-at t) above.Post
 above-one-requires t c κs = let s : Sa t = c .before .before .before in (s .pre .1 .0, (s .pre .1 .1, c .before .if1 .taken))
@@ -70,7 +70,7 @@ above-returns : (t : ℕ) → above-lts.Need-returns (R-above t) (above-at t) ab
 above-returns t c = c .one .ensures
 
 above-place-requires : (t : ℕ) → above-lts.Need-place-requires (R-above t) (above-at t) above.Post
-above-place-requires t c κs = let s : Sa t = c .before .before in (within (s .pre .1 .0), omega arith)
+above-place-requires t c κs = let s : Sa t = c .before .before in (inside (s .pre .1 .0), omega arith)
 
 above-rate-requires : (t : ℕ) → above-lts.Need-rate-requires (R-above t) (above-at t) above.Post
 above-rate-requires t c κs = let s : Sa t = c .before .before .before .before in falls-to (s .pre .1 .0) (s .pre .0) (first-in (s .pre .1 .0) (c .before .before .if1 .left)) (c .before .place .ensures)
@@ -91,7 +91,7 @@ above-mul-v : (t : ℕ) → above-lts.Need-mul-v (R-above t) (above-at t) above.
 above-mul-v t c = search needs
 
 above-element-copy-out-v : (t : ℕ) → above-lts.Need-element-copy-out-v (R-above t) (above-at t) above.Post
-above-element-copy-out-v t c = let s : Sa t = c .before .before .before .before .before .before .before .before in within (s .pre .1 .0)
+above-element-copy-out-v t c = let s : Sa t = c .before .before .before .before .before .before .before .before in inside (s .pre .1 .0)
 
 above-either-requires : (t : ℕ) → above-lts.Need-either-requires (R-above t) (above-at t) above.Post
 above-either-requires t c κs = search needs
@@ -100,7 +100,7 @@ above-returns-4 : (t : ℕ) → above-lts.Need-returns-4 (R-above t) (above-at t
 above-returns-4 t c = let s : Sa t = c .before .before .before .before .before .before .before .before .before .before .before in record { is = λ g. rate-chosen (P s) (s .args .at) (before-in (s .pre .1 .0) (s .pre .1 .1)) g (first-in (s .pre .1 .0) (c .before .before .before .before .before .before .before .before .before .if1 .left)) (moved (P s) (c .before .before .before .before .before .before .rate .ensures) (c .before .before .before .before .before .before .before .before .place .ensures)) (c .before .before .before .before .before .if2 .left) (c .before .before .before .if4 .taken) (range-of (value (P s) (s .args .at)) (value (P s) (s .args .at)) (omega arith)) (c .either .ensures ∙ sym (any-condition _ _ _ _ (c .before .before .before .before .if3 .left))) }
 
 above-place-requires-2 : (t : ℕ) → above-lts.Need-place-requires-2 (R-above t) (above-at t) above.Post
-above-place-requires-2 t c κs = let s : Sa t = c .before .before .before .before .before .before .before .before in (within (s .pre .1 .0), omega arith)
+above-place-requires-2 t c κs = let s : Sa t = c .before .before .before .before .before .before .before .before in (inside (s .pre .1 .0), omega arith)
 
 above-rate-requires-2 : (t : ℕ) → above-lts.Need-rate-requires-2 (R-above t) (above-at t) above.Post
 above-rate-requires-2 t c κs = let s : Sa t = c .before .before .before .before .before .before .before .before .before .before in falls-to (s .pre .1 .0) (s .pre .0) (second-in (s .pre .1 .0) (c .before .before .if4 .left)) (c .before .place2 .ensures)
@@ -121,7 +121,7 @@ abbrev Sr : ℕ → Type 0
 Sr t = rate-lts.Start (R-rate t) (rate-at t) rate.Post rate-Inv-loop rate-μ-loop
 
 rate-base-requires : (t : ℕ) → rate-lts.Need-base-requires (R-rate t) (rate-at t) rate.Post rate-Inv-loop rate-μ-loop
-rate-base-requires t c κs = let s : Sr t = c in (within (s .pre .1), leaf-first (s .pre .1))
+rate-base-requires t c κs = let s : Sr t = c in (inside (s .pre .1), leaf-first (s .pre .1))
 
 rate-leaf-requires : (t : ℕ) → rate-lts.Need-leaf-requires (R-rate t) (rate-at t) rate.Post rate-Inv-loop rate-μ-loop
 rate-leaf-requires t c κs = let s : Sr t = c .before .before in (down-to (s .pre .1) (c .before .base .ensures .run .below), leaf-last (s .pre .1) (c .before .base .ensures))

@@ -1,12 +1,15 @@
 -- `rules_range::calculated` meets its contract: an arm's number picks the row, and one of no other number is that of *.
+use Prim.Native.Nat.{_+_, _-_, _^_}
 use mathlib.Core.Path.{_≡_, sym, _∙_}
 use mathlib.Core.Option.{some}
 use native.Mathlib.Omega.{arith}
 use native.Mathlib.Nat.{mul-le-mul}
+use borrow.Author.Tests.{lt-ltb, le-ltb, le-leb, lt-leb}
 use Rattle.rules.specs.Tree.{calc, plus, minus}
 use Rattle.rules.specs.Operator.{opOf, opAt}
+use Rattle.rules.specs.Range.{kept, opRange}
 use Rattle.rules_operators.proofs.Operators.{same-calc, calc-rest}
-use Rattle.rules_range.proofs.Ranges.{plus-kept, plus-full, minus-kept, minus-full, times-kept, times-full, fits-low}
+use Rattle.rules_range.proofs.Ranges.{fits-low}
 use borrow.Author.Needs.{needs}
 use Rattle.rules_range.proofs.calculated.Statement.{statement}
 use Rattle.rules_range.proofs.calculated.Tie as tie
@@ -21,15 +24,15 @@ add-t10 : tie.Need-add-t10
 add-t10 c = search needs
 
 returns : tie.Need-returns
-unfolding opOf opAt
-returns c = let s : tie.Start = c .before .before in record { is = λ k e. let d : some (calc plus) ≡ some (calc k) = rw (c .before .match .keys1) at e in rw (← same-calc d) (plus-kept _ (s .args .h) _ (s .args .m) (omega arith)) }
+unfolding opOf opAt opRange kept
+returns c = let s : tie.Start = c .before .before in record { is = λ k e. let d : some (calc plus) ≡ some (calc k) = rw (c .before .match .keys1) at e in rw (← same-calc d, lt-ltb (s .args .h + s .args .m) (2 ^ 64) (omega arith)) }
 
 sub-t13 : tie.Need-sub-t13
 sub-t13 c = let s : tie.Start = c .before .before in omega (arith, s .pre)
 
 returns-2 : tie.Need-returns-2
-unfolding opOf opAt
-returns-2 c = let s : tie.Start = c .before .before in record { is = λ k e. let d : some (calc minus) ≡ some (calc k) = rw (c .before .match .keys2) at e in rw (← same-calc d) (minus-kept (s .args .k) (s .args .h) (s .args .l) (s .args .m) (c .if2 .taken) (omega arith)) }
+unfolding opOf opAt opRange kept
+returns-2 c = let s : tie.Start = c .before .before in record { is = λ k e. let d : some (calc minus) ≡ some (calc k) = rw (c .before .match .keys2) at e in rw (← same-calc d, le-leb _ _ (c .if2 .taken), lt-ltb (s .args .h - s .args .l) (2 ^ 64) (omega arith)) }
 
 product-fits-requires : tie.Need-product-fits-requires
 product-fits-requires c κs = search needs
@@ -41,18 +44,20 @@ mul-t16 : tie.Need-mul-t16
 mul-t16 c = let s : tie.Start = c .before .before .before in let h = fits-low (s .args .h) (s .args .m) (c .before .product-fits .ensures) (c .if3 .taken) in search needs
 
 returns-3 : tie.Need-returns-3
-returns-3 c = let r = c .before .before .match .rest in record { is = λ k e. rw (calc-rest _ k e (r .0 .1) (r .1)) (times-kept _ _ _ _ (sym (c .before .product-fits .ensures) ∙ c .if3 .taken)) }
+unfolding opRange kept
+returns-3 c = let r = c .before .before .match .rest in record { is = λ k e. rw (calc-rest _ k e (r .0 .1) (r .1), sym (c .before .product-fits .ensures) ∙ c .if3 .taken) }
 
 returns-4 : tie.Need-returns-4
-unfolding opOf opAt
-returns-4 c = let s : tie.Start = c .before .before in record { is = λ k e. let d : some (calc plus) ≡ some (calc k) = rw (c .before .match .keys1) at e in rw (← same-calc d) (plus-full _ (s .args .h) _ (s .args .m) (omega arith)) }
+unfolding opOf opAt opRange kept
+returns-4 c = let s : tie.Start = c .before .before in record { is = λ k e. let d : some (calc plus) ≡ some (calc k) = rw (c .before .match .keys1) at e in rw (← same-calc d, le-ltb (s .args .h + s .args .m) (2 ^ 64) (omega arith)) }
 
 returns-5 : tie.Need-returns-5
-unfolding opOf opAt
-returns-5 c = let s : tie.Start = c .before .before in record { is = λ k e. let d : some (calc minus) ≡ some (calc k) = rw (c .before .match .keys2) at e in rw (← same-calc d) (minus-full (s .args .k) _ _ (s .args .m) (c .if2 .left)) }
+unfolding opOf opAt opRange kept
+returns-5 c = let s : tie.Start = c .before .before in record { is = λ k e. let d : some (calc minus) ≡ some (calc k) = rw (c .before .match .keys2) at e in rw (← same-calc d, lt-leb _ _ (c .if2 .left)) }
 
 returns-6 : tie.Need-returns-6
-returns-6 c = let r = c .before .before .match .rest in record { is = λ k e. rw (calc-rest _ k e (r .0 .1) (r .1)) (times-full _ _ _ _ (sym (c .before .product-fits .ensures) ∙ c .if3 .left)) }
+unfolding opRange kept
+returns-6 c = let r = c .before .before .match .rest in record { is = λ k e. rw (calc-rest _ k e (r .0 .1) (r .1), sym (c .before .product-fits .ensures) ∙ c .if3 .left) }
 
 pub calculated-spec : {M : Type 1} → statement M
 calculated-spec =

@@ -1,9 +1,11 @@
 -- `rules_range::ranged` meets its contract: below %'s number every operator yields a truth, from +'s on it is calculated, and between are % and /.
-use mathlib.Core.Path.{sym}
+use mathlib.Core.Path.{refl, sym}
 use borrow.Author.Tests.{ne-eqb}
 use native.Mathlib.Omega.{arith}
 use Rattle.rules.specs.Range.{opRange}
-use Rattle.rules_operators.proofs.Operators.{high-calc, is-rem, is-div}
+use Rattle.rules.specs.Operator.{opOf, opAt}
+use Rattle.rules.proofs.Operators.{op-at}
+use Rattle.rules_operators.proofs.Operators.{high-calc, is-div}
 use Rattle.rules_range.proofs.Ranges.{truths, by-zero}
 use borrow.Author.Needs.{needs}
 use Rattle.rules_range.proofs.ranged.Statement.{statement}
@@ -28,8 +30,8 @@ least-requires : tie.Need-least-requires
 least-requires c κs = search needs
 
 returns-4 : tie.Need-returns-4
-unfolding opRange
-returns-4 c = record { is = λ op e. rw (is-rem _ op e (c .before .before .if4 .taken), ne-eqb _ _ (c .before .before .before .if3 .left), c .least .ensures, c .before .less .ensures) }
+unfolding opRange opOf opAt
+returns-4 c = record { is = λ op e. rw (op-at _ 8 e (c .before .before .if4 .taken) refl, ne-eqb _ _ (c .before .before .before .if3 .left), c .least .ensures, c .before .less .ensures) }
 
 div-t9 : tie.Need-div-t9
 div-t9 c = let s : tie.Start = c .before .before .before .before in omega (arith, s .pre)

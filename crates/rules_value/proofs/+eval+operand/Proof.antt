@@ -7,8 +7,8 @@ use borrow.Author.Needs.{needs}
 use Rattle.rules.specs.Pool.{Pool, pool}
 use Rattle.rules.proofs.Operators.{named}
 use Rattle.rules.proofs.Trees.{before-in, first-in, second-in}
-use Rattle.rules_tree.proofs.Runs.{leaf-first}
-use Rattle.rules_value.proofs.Values.{inside, falls-to, lower, topped, moved, at-no, at-chosen, at-yes, at-settled, at-both}
+use Rattle.rules_tree.proofs.Runs.{inside, falls-to, leaf-first}
+use Rattle.rules_value.proofs.Values.{lower, topped, moved, at-no, at-chosen, at-yes, at-settled, at-both}
 use Prim.Native.Nat.{ℕ, _<_, _+_, _*_}
 use borrow.Fn.Kinds.{In}
 use borrow.Fn.PlainCycle.{Measures, is, falls, and}
