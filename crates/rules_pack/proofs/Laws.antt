@@ -1,13 +1,15 @@
 -- Packing place by place: what the nodes that a reader left say of the tree, what is packed then, and how much room it takes.
 use mathlib.Core.Path.{_≡_, refl, sym, ap, _∙_}
-use mathlib.Core.Bool.{Bool, true, false, _&&_}
+use mathlib.Core.Bool.{true, false, _&&_}
+use mathlib.Core.Logic.{by-cases}
 use Prim.Native.Nat.{ℕ, _+_, _-_, _<_, _≤_}
 use native.Mathlib.Omega.{arith}
+use native.Mathlib.Decide.{ℕ-discrete}
 use lib.ListN.{replicate}
-use lib.Dec.{eqb, leb, ltb}
-use borrow.Author.Tests.{eqb-true, eqb-false, ne-eqb, lt-leb, leb-true, ltb-true}
-use Rattle.rules.specs.Tree.{Tree, var, int, nay, bin, cond, Op, cmp, and, or, rem, eq, ne, ge, le, gt, lt, calc, div, plus, minus, times}
-use Rattle.rules.specs.Operator.{opCode, Named}
+use lib.Dec.{leb, ltb}
+use borrow.Author.Tests.{ne-eqb, lt-leb, leb-true, ltb-true}
+use Rattle.rules.specs.Tree.{Tree, var, int, nay, bin, cond, Op, cmp, and, or, rem, calc, div}
+use Rattle.rules.specs.Operator.{opOf, opAt, opCode, Named}
 use Rattle.rules.specs.Pool.{Pool, pool, code, value, field, treeOf, nOp, restOp, nayNode, pickNode, valueOp, pairOp, choiceNode, ternaryNode}
 use Rattle.rules.specs.Promise.{plain, Plain}
 use Rattle.rules.specs.declared.Number.{Number}
@@ -18,7 +20,7 @@ use Rattle.rules.specs.declared.Left.{Left}
 use Rattle.rules.specs.declared.Left.the-variants as left
 use Rattle.rules.specs.Store.{push}
 use Rattle.rules.specs.Pack.{Packed, leaf, one, two, three, numberOf, smallBy, isCount, isRem, restBy, leftOf, packBin, packCond, pack, nodes, keep, packedSize, packed}
-use Rattle.rules.proofs.Operators.{named as operator, code-is}
+use Rattle.rules.proofs.Operators.{named as operator, code-is, op-at}
 use Rattle.rules.proofs.Trees.{both-left, both-right, before-in, first-in, second-in, down, tree-leaf, tree-one, tree-two, tree-three, two-op}
 use Rattle.rules.proofs.Stored.{packed-pos, blank-is}
 use Rattle.rules_pack.specs.Private.{Packs, numberAt}
@@ -35,18 +37,10 @@ module _ (c : ℕ) (e : plain c ≡ true) (h0 : c ≡ 0 → ⊥) (h1 : c ≡ 1 �
       (leb-true pairOp c (both-left _ (ltb c choiceNode) d), ltb-true c choiceNode (both-right (leb pairOp c) _ d))
 
   past-not : (c ≡ nayNode → ⊥) → pairOp ≤ c
-  past-not h2 = go (eqb c ternaryNode) refl
-    where
-      go : (b : Bool) → eqb c ternaryNode ≡ b → pairOp ≤ c
-      go true f = let d = eqb-true c ternaryNode f in omega arith
-      go false f = rest-of h2 (eqb-false c ternaryNode f) .0
+  past-not h2 = by-cases (ℕ-discrete c ternaryNode) (λ d. omega arith) (λ d. rest-of h2 d .0)
 
   past-leaf : nayNode ≤ c
-  past-leaf = go (eqb c nayNode) refl
-    where
-      go : (b : Bool) → eqb c nayNode ≡ b → nayNode ≤ c
-      go true f = let d = eqb-true c nayNode f in omega arith
-      go false f = let d = past-not (eqb-false c nayNode f) in omega arith
+  past-leaf = by-cases (ℕ-discrete c nayNode) (λ d. omega arith) (λ d. omega (arith, past-not d))
 
 -- what a sound place up to which a reader wrote knows
 module _ {P : Pool} {p : ℕ} (s : Plain P p) where
@@ -102,17 +96,12 @@ module _ {P : Pool} {p : ℕ} (s : Plain P p) where
   pub of-each : (Q : Tree → Type 0) → (code P p ≡ 0 → Q var) → (code P p ≡ 1 → Q (int (value P p)))
       → ((code P p ≡ 0 → ⊥) → (code P p ≡ 1 → ⊥) → (t : Tree) → Q (nay t)) → ((code P p ≡ 0 → ⊥) → (code P p ≡ 1 → ⊥) → (t u v : Tree) → Q (cond t u v))
       → ((code P p ≡ 0 → ⊥) → (code P p ≡ 1 → ⊥) → (op : Op) → opCode op ≡ code P p - pairOp → Pair (code P p) → (t u : Tree) → Q (bin op t u)) → Q (T p)
-  of-each Q q0 q1 q2 q3 q4 = go (eqb (code P p) 0) refl (eqb (code P p) 1) refl (eqb (code P p) nayNode) refl (eqb (code P p) ternaryNode) refl
-    where
-      go : (a : Bool) → eqb (code P p) 0 ≡ a → (b : Bool) → eqb (code P p) 1 ≡ b → (c : Bool) → eqb (code P p) nayNode ≡ c → (d : Bool) → eqb (code P p) ternaryNode ≡ d
-          → Q (T p)
-      go true e b f c g d h = rw (tree-var (eqb-true _ _ e)) (q0 (eqb-true _ _ e))
-      go false e true f c g d h = rw (tree-int (eqb-true _ _ f)) (q1 (eqb-true _ _ f))
-      go false e false f true g d h = rw (tree-nay (eqb-true _ _ g)) (q2 (eqb-false _ _ e) (eqb-false _ _ f) _)
-      go false e false f false g true h = rw (tree-cond (eqb-true _ _ h)) (q3 (eqb-false _ _ e) (eqb-false _ _ f) _ _ _)
-      go false e false f false g false h =
-          let k = binary (eqb-false _ _ e) (eqb-false _ _ f) (eqb-false _ _ g) (eqb-false _ _ h) in
-          rw (tree-bin k) (q4 (eqb-false _ _ e) (eqb-false _ _ f) (named k .op) (code-is _ (named k .op) (named k .is)) k _ _)
+  of-each Q q0 q1 q2 q3 q4 =
+      by-cases (ℕ-discrete (code P p) 0) (λ e. rw (tree-var e) (q0 e))
+      (λ e. by-cases (ℕ-discrete (code P p) 1) (λ f. rw (tree-int f) (q1 f))
+      (λ f. by-cases (ℕ-discrete (code P p) nayNode) (λ g. rw (tree-nay g) (q2 e f _))
+      (λ g. by-cases (ℕ-discrete (code P p) ternaryNode) (λ h. rw (tree-cond h) (q3 e f _ _ _))
+      (λ h. let k = binary e f g h in rw (tree-bin k) (q4 e f (named k .op) (code-is _ (named k .op) (named k .is)) k _ _)))))
 
   pub number-at : numberOf (T p) ≡ numberAt (code P p) (value P p)
   unfolding numberOf
@@ -128,21 +117,14 @@ module _ {P : Pool} {p : ℕ} (s : Plain P p) where
   unfolding isCount
   not-count h = of-each (λ t. isCount t ≡ false) (λ e. absurd (h e)) (λ e. refl) (λ e f t. refl) (λ e f t u v. refl) (λ e f op g k t u. refl)
 
-rem-by : (op : Op) → isRem op ≡ eqb (opCode op) 8
+not-rem : (op : Op) → (opCode op ≡ 8 → ⊥) → isRem op ≡ false
 unfolding isRem opCode
-rem-by (cmp eq) = refl
-rem-by (cmp ne) = refl
-rem-by (cmp ge) = refl
-rem-by (cmp le) = refl
-rem-by (cmp gt) = refl
-rem-by (cmp lt) = refl
-rem-by and = refl
-rem-by or = refl
-rem-by rem = refl
-rem-by div = refl
-rem-by (calc plus) = refl
-rem-by (calc minus) = refl
-rem-by (calc times) = refl
+not-rem (cmp k) h = refl
+not-rem and h = refl
+not-rem or h = refl
+not-rem rem h = absurd (h refl)
+not-rem div h = refl
+not-rem (calc k) h = refl
 
 -- the answers of `left_of`
 module _ {P : Pool} {p : ℕ} (s : Plain P p) where
@@ -154,7 +136,7 @@ module _ {P : Pool} {p : ℕ} (s : Plain P p) where
   unfolding leftOf
   left-other e f =
       of-each s (λ t. left.Other ≡ leftOf t) (λ g. absurd (e g)) (λ g. refl) (λ g h t. refl) (λ g h t u v. refl)
-      (λ g h op i k t u. rw (leftOf, rem-by op, i, ne-eqb (code P p - pairOp) 8 (λ j. f (omega arith))))
+      (λ g h op i k t u. rw (leftOf, not-rem op (λ j. f (omega arith))))
 
   -- n % m: the code says so, and what its operands' places hold
   module _ (e : code P p ≡ pairOp + 8) where
@@ -162,10 +144,8 @@ module _ {P : Pool} {p : ℕ} (s : Plain P p) where
     group = (omega arith, omega arith)
 
     rem-here : leftOf (treeOf P p) ≡ elim (isCount (treeOf P (field P p 0))) [ true ↦ restBy (smallBy (numberOf (treeOf P (p - 1)))) | false ↦ left.Other ]
-    unfolding leftOf
-    rem-here =
-        let k = named s group in
-        rw (tree-bin s group, leftOf, rem-by (k .op), code-is _ (k .op) (k .is), e)
+    unfolding leftOf isRem opOf opAt
+    rem-here = rw (tree-bin s group, op-at (code P p - pairOp) 8 (named s group .is) (omega arith) refl)
 
     left-at : Plain P (field P p 0)
     left-at = lower s refl (first-in (s .sound) (omega arith)) refl .1
