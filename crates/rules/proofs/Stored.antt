@@ -1,19 +1,17 @@
 -- A tree that was stored, packed or as a reader puts it, is the tree at its last place: a node more changes no place before it, and pools that agree below a place
 -- hold the same trees there.
 use Prim.Native.Nat.{ℕ, zero, suc, _+_, _-_, _*_, _<_, _≤_}
-use mathlib.Core.Path.{_≡_, refl, sym, ap, ap₂, _∙_}
+use mathlib.Core.Path.{_≡_, refl, sym, ap, _∙_}
 use mathlib.Core.List.{List, _∷_}
 use native.Mathlib.Omega.{arith}
 use lib.ListN.{length, getD, set, replicate, length-set, length-replicate}
 use lib.Seq.{getD-set-same, getD-set-other}
-use Rattle.rules.specs.Tree.{Tree, cond, defaultTree}
+use Rattle.rules.specs.Tree.{Tree, defaultTree}
 use Rattle.rules.specs.Operator.{opCode}
-use Rattle.rules.specs.Pool.{Pool, pool, code, field, value, build, below, node, treeOf, nOp, ternaryNode}
-use Rattle.rules.specs.Pool as at
+use Rattle.rules.specs.Pool.{Pool, pool, code, field, value, build, below, node, treeOf, nOp}
 use Rattle.rules.specs.Store.{push, zeros, blank}
-use Rattle.rules.specs.Pack.{Packed, leaf, one, two, three, unpack, pack, nodes, keep, packedSize, packed}
-use Rattle.rules.proofs.Trees.{Alike, below-in, node-same, tree-is, build-leaf, build-one, build-two, build-three}
-use Rattle.rules.proofs.Packs.{Fits}
+use Rattle.rules.specs.Pack.{Packed, leaf, one, two, three, pack, nodes, keep, packedSize, packed}
+use Rattle.rules.proofs.Trees.{Alike, below-in, node-same, tree-is}
 
 pub nodes-pos : (x : Packed) → 0 < nodes x
 unfolding nodes
@@ -44,6 +42,9 @@ same-as s t = record {
   };
   value-same = s .value-same ∙ t .value-same;
 }
+
+pub itself : {P : Pool} {p : ℕ} → Same P P p
+itself = record { alike = record { code-same = refl; field-same = λ j h. refl }; value-same = refl }
 
 -- the node that a pool has at a place
 pub record Node (P : Pool) (p c x y v : ℕ) : Type 0 where
@@ -87,26 +88,6 @@ module _ (P : Pool) (k c x y v : ℕ) where
       hit : (s : List ℕ) (i j a : ℕ) → j ≡ i → i < length s → getD (set s i a) j 0 ≡ a
       hit s i j a e h = rw e (getD-set-same s i a 0 h)
 
-pub keep-long : (x : Packed) (k : ℕ) (P : Pool) {n : ℕ} → Long P n → Long (keep x k P) n
-unfolding keep
-keep-long (leaf c m v) k P l = long-push P k _ _ _ _ l
-keep-long (one c m v x) k P l = long-push (keep x k P) _ _ _ _ _ (keep-long x k P l)
-keep-long (two c v x y) k P l = long-push (keep y _ (keep x k P)) _ _ _ _ _ (keep-long y _ (keep x k P) (keep-long x k P l))
-keep-long (three x y z) k P l =
-    long-push (keep z _ (keep y _ (keep x k P))) _ _ _ _ _ (keep-long z _ (keep y _ (keep x k P)) (keep-long y _ (keep x k P) (keep-long x k P l)))
-
-pub keep-below : (x : Packed) (k : ℕ) (P : Pool) (p : ℕ) → p < k → Same (keep x k P) P p
-unfolding keep
-keep-below (leaf c m v) k P p h = push-below P k _ _ _ _ p h
-keep-below (one c m v x) k P p h = same-as (push-below (keep x k P) _ _ _ _ _ p (omega arith)) (keep-below x k P p h)
-keep-below (two c v x y) k P p h =
-    same-as (push-below (keep y _ (keep x k P)) _ _ _ _ _ p (omega arith))
-    (same-as (keep-below y _ (keep x k P) p (omega arith)) (keep-below x k P p h))
-keep-below (three x y z) k P p h =
-    same-as (push-below (keep z _ (keep y _ (keep x k P))) _ _ _ _ _ p (omega arith))
-    (same-as (keep-below z _ (keep y _ (keep x k P)) p (omega arith))
-    (same-as (keep-below y _ (keep x k P) p (omega arith)) (keep-below x k P p h)))
-
 -- pools that agree below k hold the same trees there
 node-frame : (P Q : Pool) (p : ℕ) (f : ℕ → Tree) → Same P Q p → node P p f ≡ node Q p f
 node-frame P Q p f s = rw (s .alike .code-same, s .alike .field-same 0 (omega arith), s .alike .field-same 1 (omega arith), s .value-same)
@@ -121,69 +102,16 @@ frame : (P Q : Pool) (k : ℕ) → ((i : ℕ) → i < k → Same P Q i) → (p :
 frame P Q k s p h = frame-at (suc p) P Q k s p (omega arith) h
 
 -- the tree at a node, by the trees that its operands had before it was put
-tree-at : {X : Pool} {n c x y v : ℕ} → Node X n c x y v
+pub tree-at : {X : Pool} {n c x y v : ℕ} → Node X n c x y v
     → treeOf X n ≡ build c x v (below (treeOf X) n x) (below (treeOf X) n y) (below (treeOf X) n (n - 1))
 tree-at {X} {n} k = tree-is X n ∙ rw (k .code-is, k .first-is, k .second-is, k .value-is)
 
-earlier : (P Q : Pool) (n m q : ℕ) (t : Tree) → ((i : ℕ) → i < m → Same Q P i) → q < m → m ≤ n → treeOf P q ≡ t → below (treeOf Q) n q ≡ t
-earlier P Q n m q t h l b e = below-in (treeOf Q) n q (omega arith) ∙ frame Q P m h q l ∙ e
-
-same-cond : {a b c x y z : Tree} → a ≡ x → b ≡ y → c ≡ z → cond a b c ≡ cond x y z
-same-cond p q r = cc
-
-pub holds-at : (x : Packed) (k : ℕ) (P : Pool) (p : ℕ) → Fits x → p + 1 ≡ k + nodes x → Long P (k + nodes x) → treeOf (keep x k P) p ≡ unpack x
-unfolding keep nodes unpack
-holds-at (leaf c m v) k P p f e l =
-    let d : p ≡ k = omega arith in rw d (tree-at (pushed P k c m 0 v l) ∙ build-leaf c m v _ _ _ f)
-holds-at (one c m v x) k P p f e l =
-    let n = k + nodes x in
-    let Q = keep x k P in
-    let X = push Q n c m 0 v in
-    let d : p ≡ n = omega arith in
-    let s = nodes-pos x in
-    rw d (tree-at (pushed Q n c m 0 v (keep-long x k P (less (n + 1) (omega arith) l))) ∙ build-one c m v _ _ _ (f .0) (f .1)
-    ∙ ap (at.one c m v) (earlier Q X n n (n - 1) (unpack x) (λ i j. push-below Q n _ _ _ _ i j) (omega arith) (omega arith)
-    (holds-at x k P (n - 1) (f .2) (omega arith) (less n (omega arith) l))))
-holds-at (two c v x y) k P p f e l =
-    let m = k + nodes x in
-    let n = k + nodes x + nodes y in
-    let R = keep x k P in
-    let Q = keep y m R in
-    let X = push Q n c (m - 1) 0 v in
-    let d : p ≡ n = omega arith in
-    let s = nodes-pos x in
-    let t = nodes-pos y in
-    rw d (tree-at (pushed Q n c (m - 1) 0 v (keep-long y m R (keep-long x k P (less (n + 1) (omega arith) l))))
-    ∙ build-two c (m - 1) v _ _ _ (f .0) (f .1)
-    ∙ ap₂ (at.two c v)
-    (earlier R X n m (m - 1) (unpack x) (λ i j. same-as (push-below Q n _ _ _ _ i (omega arith)) (keep-below y m R i j))
-    (omega arith) (omega arith)
-    (holds-at x k P (m - 1) (f .2) (omega arith) (less m (omega arith) l)))
-    (earlier Q X n n (n - 1) (unpack y) (λ i j. push-below Q n _ _ _ _ i j) (omega arith) (omega arith)
-    (holds-at y m R (n - 1) (f .3) (omega arith) (keep-long x k P (less n (omega arith) l)))))
-holds-at (three x y z) k P p f e l =
-    let m = k + nodes x in
-    let r = k + nodes x + nodes y in
-    let n = k + nodes x + nodes y + nodes z in
-    let R = keep x k P in
-    let S = keep y m R in
-    let Q = keep z r S in
-    let X = push Q n ternaryNode (m - 1) (r - 1) 0 in
-    let d : p ≡ n = omega arith in
-    let s = nodes-pos x in
-    let t = nodes-pos y in
-    let u = nodes-pos z in
-    rw d (tree-at (pushed Q n ternaryNode (m - 1) (r - 1) 0 (keep-long z r S (keep-long y m R (keep-long x k P (less (n + 1) (omega arith) l)))))
-    ∙ build-three ternaryNode (m - 1) 0 _ _ _ (omega arith)
-    ∙ same-cond
-    (earlier R X n m (m - 1) (unpack x) (λ i j. same-as (push-below Q n _ _ _ _ i (omega arith))
-    (same-as (keep-below z r S i (omega arith)) (keep-below y m R i j))) (omega arith) (omega arith)
-    (holds-at x k P (m - 1) (f .0) (omega arith) (less m (omega arith) l)))
-    (earlier S X n r (r - 1) (unpack y) (λ i j. same-as (push-below Q n _ _ _ _ i (omega arith)) (keep-below z r S i j))
-    (omega arith) (omega arith)
-    (holds-at y m R (r - 1) (f .1) (omega arith) (keep-long x k P (less r (omega arith) l))))
-    (earlier Q X n n (n - 1) (unpack z) (λ i j. push-below Q n _ _ _ _ i j) (omega arith) (omega arith)
-    (holds-at z r S (n - 1) (f .2) (omega arith) (keep-long y m R (keep-long x k P (less n (omega arith) l))))))
+-- q is below m, up to which R is as it was when the operands after it were put
+pub earlier : (R Q : Pool) (n c x y v m q : ℕ) (t : Tree) → ((i : ℕ) → i < m → Same Q R i) → q < m → m ≤ n → treeOf R q ≡ t
+    → below (treeOf (push Q n c x y v)) n q ≡ t
+earlier R Q n c x y v m q t h l b e =
+    below-in (treeOf (push Q n c x y v)) n q (omega arith)
+    ∙ frame (push Q n c x y v) R m (λ i j. same-as (push-below Q n c x y v i (omega arith)) (h i j)) q l ∙ e
 
 -- the pool of no nodes has room for 512
 zeros-are : (n : ℕ) → zeros n ≡ replicate n 0
@@ -201,11 +129,6 @@ long-blank = rw (← blank-is) record {
   in-places = omega (arith, length-replicate {A = ℕ} 1024 0);
   in-values = omega (arith, length-replicate {A = ℕ} 512 0);
 }
-
--- nodes of a tree of at most 512, kept from place 0 on, are the tree at the last of its places
-pub kept-tree : (x : Packed) → Fits x → nodes x ≤ 512 → treeOf (keep x 0 blank) (nodes x - 1) ≡ unpack x
-kept-tree x f h =
-    let s = nodes-pos x in holds-at x 0 blank (nodes x - 1) f (omega arith) (less (0 + nodes x) (omega arith) long-blank)
 
 -- the default rule is one node
 pub default-node : {P Q : Pool} → Q ≡ push P 0 (nOp + 1) 0 0 1 → P ≡ blank → Q ≡ packed defaultTree
