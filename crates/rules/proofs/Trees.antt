@@ -197,10 +197,12 @@ shaped-same P Q zero h = refl
 shaped-same P Q (suc k) h =
     rw (shaped-same P Q k (λ i j. h i (omega arith)), operands-same P Q k (h k (omega arith)), h k (omega arith) .code-same)
 
+pub tree-any : (c s v w : List ℕ) (count root : ℕ) → isTree (pool c s v) count root ≡ isTree (pool c s w) count root
+unfolding isTree
+tree-any c s v w count root =
+    let a : (i : ℕ) → i < count → Alike (pool c s v) (pool c s w) i = λ i h. record { code-same = refl; field-same = λ j l. refl } in
+    rw (shaped-same (pool c s v) (pool c s w) count a, used-same (pool c s v) (pool c s w) count a)
+
 -- what the test told
 pub told : (P : Pool) (count root : ℕ) {r b : Bool} → r ≡ isTree (pool (P .codes) (P .places) []) count root → r ≡ b → isTree P count root ≡ b
-unfolding isTree
-told P count root e d =
-    let Q : Pool = pool (P .codes) (P .places) [] in
-    let s : (i : ℕ) → i < count → Alike P Q i = λ i h. record { code-same = refl; field-same = λ j l. refl } in
-    rw (shaped-same P Q count s, used-same P Q count s) (sym e ∙ d)
+told P count root e d = tree-any (P .codes) (P .places) (P .values) [] count root ∙ sym e ∙ d
