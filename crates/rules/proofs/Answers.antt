@@ -37,10 +37,6 @@ module _ (P : Pool) (count root : ℕ) where
   unfolding fitOf
   fit-tree k e = rw (fitOf, e)
 
-  pub fit-none : (k : ℕ) → isTree P count root ≡ false → fitOf P count root k ≡ fit.NoTree
-  unfolding fitOf
-  fit-none k e = rw (fitOf, e)
-
   -- as the code has them
   pub resolves : (n : ℕ) {u v : Value} → isTree P count root ≡ true → u ≡ evalTree (treeOf P root) n → u ≡ v → formOf v ≡ resolvedOf P count root n
   resolves n e d f = sym (resolved-tree n e ∙ ap formOf (sym d ∙ f))

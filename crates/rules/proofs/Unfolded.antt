@@ -14,8 +14,7 @@ use Rattle.rules.specs.Pack.{Packed, leaf, one, two, three, unpack, node
 use Rattle.rules.proofs.Operators.{code-in}
 use Rattle.rules.proofs.Trees.{sound}
 use Rattle.rules.proofs.Packs.{Fits, is-two}
-use Rattle.rules.proofs.Stored.{nodes-pos}
-use Rattle.rules.proofs.StoredTree.{Codes, kept-codes, kept-tree, kept-is-tree}
+use Rattle.rules.proofs.Stored.{nodes-pos, Codes, kept-codes, kept-tree, kept-is-tree}
 
 pub size-pos : (t : Tree) → 0 < size t
 unfolding size
