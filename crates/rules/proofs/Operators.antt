@@ -21,19 +21,15 @@ pub either : {A : Type 0} (B : A → Type 0) (b : Bool) {x y : A} → B x → B 
 either B true p q = p
 either B false p q = q
 
-record Row (ops : List Op) (i : ℕ) : Type 0 where
-  op : Op
-  is : opAt ops i ≡ some op
-
-row : (ops : List Op) (i : ℕ) → i < length ops → Row ops i
+row : (ops : List Op) (i : ℕ) → i < length ops → (op : Op) × (opAt ops i ≡ some op)
 unfolding opAt
 row [] i h = absurd (omega arith)
-row (op ∷ ops) zero h = record { op = op; is = refl }
-row (op ∷ ops) (suc i) h = let r = row ops i (omega arith) in record { op = r .op; is = r .is }
+row (op ∷ ops) zero h = (op, refl)
+row (op ∷ ops) (suc i) h = row ops i (omega arith)
 
 pub named : (i : ℕ) → i < length operators → Named i
 unfolding opOf
-named i h = let r = row operators i h in record { op = r .op; is = r .is }
+named i h = let r = row operators i h in record { op = r .0; is = r .1 }
 
 pub op-code : (op : Op) → opOf (opCode op) ≡ some op
 unfolding opCode opOf opAt

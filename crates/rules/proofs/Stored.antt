@@ -13,7 +13,7 @@ use lib.Seq.{getD-set-same, getD-set-other}
 use borrow.Author.Tests.{lt-ltb, le-ltb, le-leb}
 use Rattle.rules.specs.Tree.{Tree, defaultTree, cond}
 use Rattle.rules.specs.Operator.{opCode}
-use Rattle.rules.specs.Pool.{Pool, pool, code, field, value, build, below, node, treeOf, nOp, fields, operandsTo, operands, allBelow, member, distinct, used, shaped, isTree, nayNode, pairOp, ternaryNode}
+use Rattle.rules.specs.Pool.{Pool, pool, code, field, value, build, below, treeOf, nOp, fields, operandsTo, operands, allBelow, member, distinct, used, shaped, isTree, nayNode, pairOp, ternaryNode}
 use Rattle.rules.specs.Pool as at
 use Rattle.rules.specs.Store.{push, zeros, blank}
 use Rattle.rules.specs.Pack.{Packed, leaf, one, two, three, pack, nodes, keep, packedSize, packed, unpack}

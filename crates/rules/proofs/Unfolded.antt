@@ -16,14 +16,6 @@ use Rattle.rules.proofs.Trees.{sound}
 use Rattle.rules.proofs.Packs.{Fits, is-two}
 use Rattle.rules.proofs.Stored.{nodes-pos, Codes, kept-codes, kept-tree, kept-is-tree}
 
-pub size-pos : (t : Tree) → 0 < size t
-unfolding size
-size-pos var = omega arith
-size-pos (int v) = omega arith
-size-pos (nay t) = omega arith
-size-pos (bin op s t) = omega arith
-size-pos (cond s t u) = omega arith
-
 unfoldable spread : Tree → Packed
 spread var = leaf 0 0 0
 spread (int v) = leaf 1 0 v
@@ -54,6 +46,9 @@ as-many (int v) = refl
 as-many (nay t) = rw (as-many t)
 as-many (bin op s t) = rw (as-many s, as-many t)
 as-many (cond s t u) = rw (as-many s, as-many t, as-many u)
+
+pub size-pos : (t : Tree) → 0 < size t
+size-pos t = omega (arith, as-many t, nodes-pos (spread t))
 
 as-kept : (t : Tree) (k : ℕ) (P : Pool) → keep (spread t) k P ≡ store t k P
 unfolding spread keep store

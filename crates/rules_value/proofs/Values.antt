@@ -11,14 +11,14 @@ use lib.ListN.{getD}
 use lib.Dec.{eqb}
 use borrow.Author.Tests.{le-leb, lt-ltb, le-ltb, ne-eqb}
 use Rattle.rules.specs.declared.Value.{Value}
-use Rattle.rules.specs.declared.Value.the-variants.{Is, ZeroModulus}
+use Rattle.rules.specs.declared.Value.the-variants.{Is}
 use Rattle.rules.specs.Tree.{Tree, rem}
 use Rattle.rules.specs.Value.{truth, binary, evalTree}
 use Rattle.rules.specs.Operator.{opOf, opAt, Named}
 use Rattle.rules.specs.Pool.{Pool, code, field, value, leaf, one, two, treeOf, nOp, restOp, nayNode, valueOp, pairOp, choiceNode, ternaryNode}
 use Rattle.rules.specs.Promise.{Sound}
 use Rattle.rules_operators.specs.Operator.{settled, settledBy, Gives, Applies}
-use Rattle.rules_operators.proofs.Given.{number, fails-as, is-as, negation, first-arm, second-arm, left-alone, both, by-left}
+use Rattle.rules_operators.proofs.Given.{number, negation, first-arm, second-arm, left-alone, both, by-left}
 use Rattle.rules.proofs.Operators.{named}
 use Rattle.rules.proofs.Trees.{tree-leaf, tree-one, tree-two, tree-three, leaf-op, leaf-rest, one-op, two-op}
 use Rattle.rules_tree.specs.Promise.{Run}
@@ -110,18 +110,7 @@ module _ (P : Pool) (p n : ℕ) where
         rw (tree-two P p h (omega arith) a f, two-op (code P p) (value P p) (treeOf P (field P p 0)) (treeOf P (p - 1)) (k .is) l)
         (both _ _ _ g (settles (code P p - pairOp) x k e i) m (w .gives (k .op) (k .is)))
 
--- the value of a number and a flag
-module _ {v : Value} {r : ℕ} where
-  pub failed : {c : Bool} → Gives v false c r → c ≡ true → ZeroModulus ≡ v
-  failed g e = sym (fails-as v g e)
-
-  pub whole : {c : Bool} → Gives v false c r → c ≡ false → Is r ≡ v
-  whole g e = sym (is-as v g e)
-
--- from a place to itself, and on from there
-pub lift-none : {P : Pool} {p x : ℕ} {c : Bool} → Lifts P p p x c c x
-lift-none = record { gives = λ n b g. g }
-
+-- from a place on
 pub lift-more : {P : Pool} {p q r x y z : ℕ} {c d e : Bool} → r - 1 ≡ q → Lifts P p q x c d y → Lifts P (r - 1) r y d e z → Lifts P p r x c e z
 lift-more f k l = record { gives = λ n b g. l .gives n b (rw f (k .gives n b g)) }
 

@@ -6,7 +6,7 @@ use borrow.Author.Needs.{needs}
 use Rattle.rules.specs.Pool.{pool}
 use Rattle.rules_tree.proofs.Runs.{down-to}
 use Rattle.rules_value.specs.Private.{Lifts}
-use Rattle.rules_value.proofs.Values.{lift-none, lift-more}
+use Rattle.rules_value.proofs.Values.{lift-more}
 use Rattle.rules_value.proofs.up.Statement.{statement}
 use Rattle.rules_value.proofs.up.Tie as tie
 
@@ -17,7 +17,7 @@ abbrev μ-loop : tie.MeasureT-loop
 μ-loop codes places values base at x zero₀ p₀ y₀ zero p y = at - p
 
 loop-holds : tie.Need-loop-holds Inv-loop μ-loop
-loop-holds c = (omega arith, c .pre .1 .below, lift-none)
+loop-holds c = (omega arith, c .pre .1 .below, record { gives = λ n b g. g })
 
 add-p : tie.Need-add-p Inv-loop μ-loop
 add-p c = search needs

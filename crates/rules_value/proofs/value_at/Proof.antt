@@ -1,5 +1,6 @@
 -- `rules_value::value_at` meets its contract: the flag decides. Assumes nothing.
-use Rattle.rules_value.proofs.Values.{failed, whole}
+use mathlib.Core.Path.{sym}
+use Rattle.rules_operators.proofs.Given.{fails-as, is-as}
 use borrow.Author.Needs.{needs}
 use Rattle.rules_value.proofs.value_at.Statement.{statement}
 use Rattle.rules_value.proofs.value_at.Tie as tie
@@ -8,10 +9,10 @@ eval-requires : tie.Need-eval-requires
 eval-requires c κs = search needs
 
 returns : tie.Need-returns
-returns c = failed (c .before .eval .ensures) (c .if1 .taken)
+returns c = sym (fails-as _ (c .before .eval .ensures) (c .if1 .taken))
 
 returns-2 : tie.Need-returns-2
-returns-2 c = whole (c .before .eval .ensures) (c .if1 .left)
+returns-2 c = sym (is-as _ (c .before .eval .ensures) (c .if1 .left))
 
 pub value-at-spec : {M : Type 1} → statement M
 value-at-spec = tie.close (tie.spec eval-requires returns returns-2)
