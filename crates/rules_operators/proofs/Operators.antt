@@ -13,7 +13,7 @@ use Rattle.rules.specs.declared.Value.the-variants.{Is, ZeroModulus}
 use Rattle.rules.specs.Tree.{Op, cmp, calc, and, or, rem, div, Cmp, eq, ne, ge, le, gt, lt, Calc, plus, minus, times}
 use Rattle.rules.specs.Value.{binary, truthV}
 use Rattle.rules.specs.Operator.{opOf, opAt, opCode}
-use Rattle.rules.proofs.Operators.{never, code-is, op-at}
+use Rattle.rules.proofs.Operators.{never, code-in, code-is, op-at}
 use Rattle.rules_operators.specs.Operator.{settled, settledBy}
 
 pub same-cmp : {j k : Cmp} → some (cmp j) ≡ some (cmp k) → j ≡ k
@@ -51,18 +51,11 @@ pub record IsCalc (op : Op) : Type 0 where
   pub is : op ≡ calc which
 
 pub high-calc : (i : ℕ) (op : Op) → opOf i ≡ some op → 10 ≤ i → IsCalc op
-unfolding opCode
-high-calc i (calc c) e h = record { which = c; is = refl }
-high-calc i (cmp eq) e h = let d = code-is i (cmp eq) e in absurd (omega arith)
-high-calc i (cmp ne) e h = let d = code-is i (cmp ne) e in absurd (omega arith)
-high-calc i (cmp ge) e h = let d = code-is i (cmp ge) e in absurd (omega arith)
-high-calc i (cmp le) e h = let d = code-is i (cmp le) e in absurd (omega arith)
-high-calc i (cmp gt) e h = let d = code-is i (cmp gt) e in absurd (omega arith)
-high-calc i (cmp lt) e h = let d = code-is i (cmp lt) e in absurd (omega arith)
-high-calc i and e h = let d = code-is i and e in absurd (omega arith)
-high-calc i or e h = let d = code-is i or e in absurd (omega arith)
-high-calc i rem e h = let d = code-is i rem e in absurd (omega arith)
-high-calc i div e h = let d = code-is i div e in absurd (omega arith)
+unfolding opOf opAt
+high-calc i op e h =
+    by-cases (ℕ-discrete i 10) (λ d. record { which = plus; is = op-at i 10 e d refl })
+    (λ d. by-cases (ℕ-discrete i 11) (λ q. record { which = minus; is = op-at i 11 e q refl })
+    (λ q. record { which = times; is = op-at i 12 e (omega (arith, code-is i op e, code-in op)) refl }))
 
 pub same-calc : {j k : Calc} → some (calc j) ≡ some (calc k) → j ≡ k
 same-calc e = cc

@@ -9,16 +9,16 @@ use native.Mathlib.Omega.{arith}
 use native.Mathlib.Nat.{mul-zero, le-div-iff-mul-le}
 use native.Mathlib.Decide.{ℕ-discrete, decLe, decLt}
 use lib.Dec.{ltb, leb, eqb}
-use borrow.Author.Tests.{ltb-true, ltb-false, lt-ltb, le-ltb, le-leb, lt-leb, eq-eqb, ne-eqb}
+use borrow.Author.Tests.{ltb-true, lt-ltb, le-ltb, le-leb, lt-leb, eq-eqb, ne-eqb}
 use Rattle.rules.specs.declared.Rating.{Rating}
 use Rattle.rules.specs.declared.Rating.the-variants.{Range, Unrated}
-use Rattle.rules.specs.Tree.{Op, cmp, calc, and, or, rem, div, var, int, bin, cond, plus, minus, times}
-use Rattle.rules.specs.Operator.{opOf, opAt, opCode}
+use Rattle.rules.specs.Tree.{Op, rem, var, int, bin, cond}
+use Rattle.rules.specs.Operator.{opOf, opAt}
 use Rattle.rules.specs.Range.{fullRange, rateTree, opRange, notRange, binRange, condRange}
 use Rattle.rules.specs.Pool.{Pool, code, field, value, leaf, one, two, treeOf, nOp, restOp, nayNode, valueOp, pairOp, choiceNode, ternaryNode}
-use Rattle.rules.proofs.Operators.{split, named, code-is, op-at}
+use Rattle.rules.proofs.Operators.{split, named, op-at}
 use Rattle.rules.proofs.InRange.{ordered}
-use Rattle.rules_operators.proofs.Operators.{is-div}
+use Rattle.rules_operators.proofs.Operators.{low-cmp, is-div}
 use Rattle.rules.proofs.Trees.{tree-leaf, tree-one, tree-two, tree-three, leaf-op, leaf-rest, one-op, two-op}
 use Rattle.rules_tree.specs.Promise.{Run}
 use Rattle.rules_range.specs.Private.{Joins, fromTo, Lifts}
@@ -28,15 +28,10 @@ Count = Range 0 18446744073709551615
 
 -- the operators before % yield truths
 pub truths : (i : ℕ) (op : Op) (k h l m : ℕ) → opOf i ≡ some op → i < 8 → opRange op k h l m ≡ Range 0 1
-unfolding opRange opCode
-truths i (cmp c) k h l m e b = refl
-truths i and k h l m e b = refl
-truths i or k h l m e b = refl
-truths i rem k h l m e b = let d = code-is i rem e in absurd (omega arith)
-truths i div k h l m e b = let d = code-is i div e in absurd (omega arith)
-truths i (calc plus) k h l m e b = let d = code-is i (calc plus) e in absurd (omega arith)
-truths i (calc minus) k h l m e b = let d = code-is i (calc minus) e in absurd (omega arith)
-truths i (calc times) k h l m e b = let d = code-is i (calc times) e in absurd (omega arith)
+unfolding opRange opOf opAt
+truths i op k h l m e b =
+    by-cases (decLt i 6) (λ d. rw (low-cmp i op e d .is))
+    (λ d. by-cases (ℕ-discrete i 6) (λ q. rw (op-at i 6 e q refl)) (λ q. rw (op-at i 7 e (omega arith) refl)))
 
 -- the rows of + - * /
 pub zero-fits : (x y : ℕ) → y ≡ 0 → ltb (x * y) (2 ^ 64) ≡ true
