@@ -1,12 +1,14 @@
 -- A rated rule yields a value within its range at every count, and never a remainder by zero; so a rule that fits k yields a form
 -- below k. By induction on the tree, with one lemma for each kind of node.
 use Prim.Native.Nat.{ℕ, _+_, _-_, _*_, _/_, _%_, _^_, _<_, _≤_, min, max}
-use mathlib.Core.Path.{_≡_, refl, subst₂}
+use mathlib.Core.Path.{_≡_, refl}
 use mathlib.Core.Bool.{Bool, true, false, not}
+use mathlib.Core.Logic.{by-cases}
 use native.Mathlib.Omega.{arith}
 use native.Mathlib.Nat.{mod-lt, mod-le, mod-eq-of-lt, mul-le-mul, mul-le-mul-left, div-mul-le-self, le-div-iff-mul-le}
-use lib.Dec.{eqb, leb, ltb}
-use borrow.Author.Tests.{eqb-false, ne-eqb, ltb-true, leb-true, le-ltb}
+use native.Mathlib.Decide.{ℕ-discrete, decLe, decLt}
+use lib.Dec.{eqb, leb}
+use borrow.Author.Tests.{eq-eqb, ne-eqb, ltb-true, le-leb, lt-leb, lt-ltb, le-ltb}
 use Rattle.rules.specs.declared.Value.{Value}
 use Rattle.rules.specs.declared.Value.the-variants.{Is, ZeroModulus}
 use Rattle.rules.specs.declared.Rating.{Rating}
@@ -45,13 +47,13 @@ wider : (l h k m : ℕ) (v : Value) → Within (Range l h) v → k ≤ l → h �
 wider l h k m (Is x) w p q = omega arith
 wider l h k m ZeroModulus w p q = w
 
-rem-in : (h l m x y : ℕ) (b : Bool) → eqb l 0 ≡ b → x ≤ h → l ≤ y → y ≤ m
-    → Within (pickR b Unrated (Range 0 (min h (m - 1)))) (pickV (eqb y 0) ZeroModulus (Is (x % y)))
-rem-in h l m x y true e p q r = tt
-rem-in h l m x y false e p q r =
-    let k : l ≡ 0 → ⊥ = eqb-false l 0 e in
-    let y0 : y ≡ 0 → ⊥ = omega arith in
-    rw (ne-eqb _ _ y0) (omega (arith, mod-lt x {m = y} (omega arith), mod-le x y))
+-- a divisor whose lowest is not 0 is not 0
+over : (l y lo hi z : ℕ) → l ≤ y → (0 < l → Within (Range lo hi) (Is z))
+    → Within (pickR (eqb l 0) Unrated (Range lo hi)) (pickV (eqb y 0) ZeroModulus (Is z))
+over l y lo hi z h w =
+    by-cases (ℕ-discrete l 0)
+    (λ e. rw (eq-eqb l 0 e) tt)
+    (λ e. rw (ne-eqb l 0 e, ne-eqb y 0 (λ d. e (omega arith))) (w (omega arith)))
 
 -- a quotient of the least by the greatest is the least, and the other way round
 over-in : (k h l m x y : ℕ) → 0 < l → k ≤ x → x ≤ h → l ≤ y → y ≤ m → (k / m ≤ x / y) × (x / y ≤ h / l)
@@ -60,34 +62,25 @@ over-in k h l m x y pos p q r s = (
   le-div-iff-mul-le {k = l} pos .1 (omega (arith, mul-le-mul-left (x / y) r, div-mul-le-self x y)),
 )
 
-div-in : (k h l m x y : ℕ) (b : Bool) → eqb l 0 ≡ b → k ≤ x → x ≤ h → l ≤ y → y ≤ m
-    → Within (pickR b Unrated (Range (k / m) (h / l))) (pickV (eqb y 0) ZeroModulus (Is (x / y)))
-div-in k h l m x y true e p q r s = tt
-div-in k h l m x y false e p q r s =
-    let z : l ≡ 0 → ⊥ = eqb-false l 0 e in
-    let y0 : y ≡ 0 → ⊥ = omega arith in
-    rw (ne-eqb _ _ y0) (over-in k h l m x y (omega arith) p q r s)
-
 -- a number modulo 2^64 is in the full range, and itself where it fits
 wrapped : (x : ℕ) → Within fullRange (Is (x % 2 ^ 64))
 wrapped x = let h = mod-lt x {m = 2 ^ 64} (omega arith) in omega arith
 
-kept-in : (l h x : ℕ) (b : Bool) → ltb h (2 ^ 64) ≡ b → l ≤ x → x ≤ h → Within (pickR b (Range l h) fullRange) (Is (x % 2 ^ 64))
-kept-in l h x true e p q =
-    let d = ltb-true h (2 ^ 64) e in
-    let z : x % 2 ^ 64 ≡ x = mod-eq-of-lt (omega arith) in
-    rw z (p, q)
-kept-in l h x false e p q = wrapped x
+kept-in : (l h x : ℕ) → l ≤ x → x ≤ h → Within (kept l h) (Is (x % 2 ^ 64))
+unfolding kept
+kept-in l h x p q =
+    by-cases (decLt h (2 ^ 64))
+    (λ d. let z : x % 2 ^ 64 ≡ x = mod-eq-of-lt (omega arith) in rw (lt-ltb h (2 ^ 64) d, z) (p, q))
+    (λ d. rw (le-ltb h (2 ^ 64) (omega arith)) (wrapped x))
 
 -- where the subtrahend is not greater, the difference is that of the numbers
-minus-in : (k h l m x y : ℕ) (b : Bool) → leb m k ≡ b → k ≤ x → x ≤ h → l ≤ y → y ≤ m
-    → Within (pickR b (kept (k - m) (h - l)) fullRange) (Is ((2 ^ 64 + x - y) % 2 ^ 64))
-unfolding kept
-minus-in k h l m x y true e p q r s =
-    let d = leb-true m k e in
+minus-in : (k h l m x y : ℕ) → k ≤ x → x ≤ h → l ≤ y → y ≤ m → Within (pickR (leb m k) (kept (k - m) (h - l)) fullRange) (Is ((2 ^ 64 + x - y) % 2 ^ 64))
+minus-in k h l m x y p q r s =
+    by-cases (decLe m k)
+    (λ d.
     let z : (2 ^ 64 + x - y) % 2 ^ 64 ≡ (x - y) % 2 ^ 64 = omega arith in
-    rw z (kept-in (k - m) (h - l) (x - y) (ltb (h - l) (2 ^ 64)) refl (omega arith) (omega arith))
-minus-in k h l m x y false e p q r s = wrapped (2 ^ 64 + x - y)
+    rw (le-leb m k d, z) (kept-in (k - m) (h - l) (x - y) (omega arith) (omega arith)))
+    (λ d. rw (lt-leb m k (omega arith)) (wrapped (2 ^ 64 + x - y)))
 
 op-in : (op : Op) (k h l m : ℕ) (v w : Value) → Within (Range k h) v → Within (Range l m) w → Within (opRange op k h l m) (binary op v w)
 unfolding opRange binary kept
@@ -96,14 +89,13 @@ op-in (cmp c) k h l m (Is x) (Is y) p q = truth-in (compared c x y)
 op-in (cmp c) k h l m (Is x) ZeroModulus p q = q
 op-in and k h l m (Is x) w p q = pick-in (eqb x 0) (Range 0 1) (Is 0) (truthV w) (omega arith) (truthV-in l m w q)
 op-in or k h l m (Is x) w p q = pick-in (eqb x 0) (Range 0 1) (truthV w) (Is 1) (truthV-in l m w q) (omega arith)
-op-in rem k h l m (Is x) (Is y) p q = rem-in h l m x y (eqb l 0) refl (p .1) (q .0) (q .1)
+op-in rem k h l m (Is x) (Is y) p q = over l y 0 (min h (m - 1)) (x % y) (q .0) (λ e. omega (arith, p, q, mod-lt x {m = y} (omega (arith, q)), mod-le x y))
 op-in rem k h l m (Is x) ZeroModulus p q = absurd q
-op-in div k h l m (Is x) (Is y) p q = div-in k h l m x y (eqb l 0) refl (p .0) (p .1) (q .0) (q .1)
+op-in div k h l m (Is x) (Is y) p q = over l y (k / m) (h / l) (x / y) (q .0) (λ e. over-in k h l m x y e (p .0) (p .1) (q .0) (q .1))
 op-in div k h l m (Is x) ZeroModulus p q = absurd q
-op-in (calc plus) k h l m (Is x) (Is y) p q = kept-in (k + l) (h + m) (x + y) (ltb (h + m) (2 ^ 64)) refl (omega (arith, p, q)) (omega (arith, p, q))
-op-in (calc minus) k h l m (Is x) (Is y) p q = minus-in k h l m x y (leb m k) refl (p .0) (p .1) (q .0) (q .1)
-op-in (calc times) k h l m (Is x) (Is y) p q =
-    kept-in (k * l) (h * m) (x * y) (ltb (h * m) (2 ^ 64)) refl (mul-le-mul (p .0) (q .0)) (mul-le-mul (p .1) (q .1))
+op-in (calc plus) k h l m (Is x) (Is y) p q = kept-in (k + l) (h + m) (x + y) (omega (arith, p, q)) (omega (arith, p, q))
+op-in (calc minus) k h l m (Is x) (Is y) p q = minus-in k h l m x y (p .0) (p .1) (q .0) (q .1)
+op-in (calc times) k h l m (Is x) (Is y) p q = kept-in (k * l) (h * m) (x * y) (mul-le-mul (p .0) (q .0)) (mul-le-mul (p .1) (q .1))
 op-in (calc c) k h l m (Is x) ZeroModulus p q = absurd q
 
 bin-in : (op : Op) (r s : Rating) (v w : Value) → Within r v → Within s w → Within (binRange op r s) (binary op v w)
@@ -138,15 +130,13 @@ pub record FromTo (lo hi : ℕ) (v : Value) : Type 0 where
   pub low : lo ≤ form
   pub high : form ≤ hi
 
+from-to : (lo hi : ℕ) (v : Value) → Within (Range lo hi) v → FromTo lo hi v
+from-to lo hi (Is v) w = record { form = v; is = refl; low = w .0; high = w .1 }
+from-to lo hi ZeroModulus w = absurd w
+
 -- a rule of range lo to hi yields at every count a value from lo to hi
 pub rated : (t : Tree) (lo hi : ℕ) → rateTree t ≡ Range lo hi → (n : ℕ) → n < 2 ^ 64 → FromTo lo hi (evalTree t n)
-rated t lo hi e n b = go (evalTree t n) refl
-  where
-    go : (u : Value) → evalTree t n ≡ u → FromTo lo hi (evalTree t n)
-    go (Is v) f =
-        let w : Within (Range lo hi) (Is v) = subst₂ Within e f (within t n b) in
-        record { form = v; is = f; low = w .0; high = w .1 }
-    go ZeroModulus f = absurd (subst₂ Within e f (within t n b))
+rated t lo hi e n b = from-to lo hi (evalTree t n) (rw e at (within t n b))
 
 -- a range's lowest is at most its highest: the value at 0 lies between them
 pub ordered : (t : Tree) (lo hi : ℕ) → rateTree t ≡ Range lo hi → lo ≤ hi
@@ -158,17 +148,15 @@ pub record Below (k : ℕ) (v : Value) : Type 0 where
   pub is : v ≡ Is form
   pub low : form < k
 
+below : (r : Rating) (k : ℕ) (v : Value) → fitsRange r k ≡ true → Within r v → Below k v
+unfolding fitsRange
+below (Range l h) k (Is v) e w = record { form = v; is = refl; low = omega (arith, w, ltb-true h k e) }
+below (Range l h) k ZeroModulus e w = absurd w
+below Unrated k v e w = never e
+
 -- a rule that fits k yields a form below k at every count
 pub fitting : (t : Tree) (k : ℕ) → fitsRange (rateTree t) k ≡ true → (n : ℕ) → n < 2 ^ 64 → Below k (evalTree t n)
-unfolding fitsRange
-fitting t k e n b = go (rateTree t) refl
-  where
-    go : (r : Rating) → rateTree t ≡ r → Below k (evalTree t n)
-    go (Range l h) f =
-        let w : FromTo l h (evalTree t n) = rated t l h f n b in
-        let d : ltb h k ≡ true = rw f at e in
-        record { form = w .form; is = w .is; low = omega (arith, ltb-true h k d) }
-    go Unrated f = never (rw f at e)
+fitting t k e n b = below (rateTree t) k (evalTree t n) e (within t n b)
 
 -- nothing fits 0
 pub fits-none : (r : Rating) → fitsRange r 0 ≡ false
