@@ -17,7 +17,7 @@ use Rattle.rules.specs.Pool.{Pool, pool, code, field, value, build, belo
 use Rattle.rules.specs.Pool as at
 use Rattle.rules.specs.Store.{push, zeros, blank}
 use Rattle.rules.specs.Pack.{Packed, leaf, one, two, three, pack, nodes, keep, packedSize, packed, unpack}
-use Rattle.rules.proofs.Trees.{Alike, below-in, node-same, tree-is, member-tail, both-fields, used-same, shaped-same, build-leaf, build-one, build-two, build-three}
+use Rattle.rules.proofs.Trees.{Alike, below-in, node-same, tree-is, member-tail, both-fields, has-operands, used-same, shaped-same, build-leaf, build-one, build-two, build-three}
 use Rattle.rules.proofs.Packs.{Fits}
 
 pub nodes-pos : (x : Packed) → 0 < nodes x
@@ -108,7 +108,7 @@ pub tree-at : {X : Pool} {n c x y v : ℕ} → Node X n c x y v
     → treeOf X n ≡ build c x v (below (treeOf X) n x) (below (treeOf X) n y) (below (treeOf X) n (n - 1))
 tree-at {X} {n} k = tree-is X n ∙ rw (k .code-is, k .first-is, k .second-is, k .value-is)
 
--- q is below m, up to which R is as it was when the operands after it were put
+-- an operand's tree is still there when its node is put: no place below m has changed since
 pub earlier : (R Q : Pool) (n c x y v m q : ℕ) (t : Tree) → ((i : ℕ) → i < m → Same Q R i) → q < m → m ≤ n → treeOf R q ≡ t
     → below (treeOf (push Q n c x y v)) n q ≡ t
 earlier R Q n c x y v m q t h l b e =
@@ -190,8 +190,7 @@ module _ {X : Pool} {k c x y v : ℕ} (n : Node X k c x y v) where
   ops-leaf h = rw (operands, n .code-is, lt-ltb c nayNode h)
 
   ops-to : (a : ℕ) → nayNode ≤ c → fields c ≡ a → operands X k ≡ operandsTo X k a
-  unfolding operands
-  ops-to a h e = rw (operands, n .code-is, le-ltb c nayNode h) (ap (operandsTo X k) (ap fields (n .code-is) ∙ e))
+  ops-to a h e = has-operands X k (rw (n .code-is) h) ∙ ap (operandsTo X k) (ap fields (n .code-is) ∙ e)
 
   ops-one : nayNode ≤ c → c < pairOp → operands X k ≡ (k - 1) ∷ []
   unfolding operandsTo

@@ -106,6 +106,10 @@ some-fields c h = rw (fields, le-ltb c pairOp h) (either (λ n. 0 < n) (ltb c te
 pub both-fields : (c : ℕ) → ternaryNode ≤ c → fields c ≡ 2
 both-fields c h = rw (fields, le-ltb c pairOp (omega arith), le-ltb c ternaryNode h)
 
+pub has-operands : (P : Pool) (p : ℕ) → nayNode ≤ code P p → operands P p ≡ operandsTo P p (fields (code P p))
+unfolding operands
+has-operands P p h = rw (operands, le-ltb (code P p) nayNode h)
+
 -- a place below the node count of a sound pool has a known code and its operands below it
 in-shape : (P : Pool) (k p : ℕ) → p < k → shaped P k ≡ true → (known (code P p) && allBelow p (operands P p)) ≡ true
 unfolding shaped
@@ -138,8 +142,7 @@ module _ {P : Pool} {p : ℕ} (s : Sound P p) where
   known-in = leb-true _ _ (both-left (known (code P p)) _ shape-in)
 
   all-in : nayNode ≤ code P p → allBelow p (operandsTo P p (fields (code P p))) ≡ true
-  unfolding operands
-  all-in h = rw (operands, le-ltb (code P p) nayNode h) at (both-right (known (code P p)) _ shape-in)
+  all-in h = rw (has-operands P p h) at (both-right (known (code P p)) _ shape-in)
 
   pub before-in : nayNode ≤ code P p → p - 1 < p
   before-in h = before-low P p (fields (code P p)) (all-in h)

@@ -16,7 +16,7 @@ use borrow.Author.Tests.{lt-ltb, le-ltb, le-leb, lt-leb, leb-true, leb-false, lt
 use Rattle.rules.specs.Pool.{Pool, code, field, known, fields, operandsTo, operands, allBelow, member, distinct, used, shaped, isTree, nayNode, pairOp, ternaryNode}
 use Rattle.rules_tree.specs.Private.{Unmarked, Marked, Took, Placed, Passes}
 use Rattle.rules.proofs.Operators.{never, split}
-use Rattle.rules.proofs.Trees.{both-left, both-right, member-head, member-tail, both-fields}
+use Rattle.rules.proofs.Trees.{both-left, both-right, member-head, member-tail, both-fields, has-operands}
 
 -- the answers of the test of one operand
 module _ {q x p : ℕ} (m : List ℕ) (e : q ≡ x) where
@@ -110,11 +110,6 @@ none-below : (P : Pool) (a : ℕ) → allBelow 0 (operandsTo P 0 a) ≡ false
 unfolding operandsTo allBelow
 none-below P zero = refl
 none-below P (suc a) = rw (le-ltb (field P 0 a) 0 (omega arith))
-
-module _ (P : Pool) (p : ℕ) where
-  has-operands : nayNode ≤ code P p → operands P p ≡ operandsTo P p (fields (code P p))
-  unfolding operands
-  has-operands h = rw (operands, le-ltb (code P p) nayNode h)
 
 module _ (P : Pool) (p : ℕ) {l : List ℕ} where
   pub before-taken : 0 < p → p < length l → shaped P p ≡ true → Marked l (used P p) → Taken P p 0 l (set l (p - 1) 1)
