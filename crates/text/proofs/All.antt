@@ -1,19 +1,33 @@
--- Whether all bytes are of a set, told by how many stand at the front; and a byte's first place as the end of a run. Assumes nothing.
-use Prim.Native.Nat.{ℕ, _+_, _-_, _<_, _≤_}
+-- Whether all bytes are of a set, told by each byte or by how many stand at the front; and a byte's first place as the end of a run.
+-- Assumes nothing.
+use Prim.Native.Nat.{ℕ, zero, suc, _+_, _-_, _<_, _≤_}
 use mathlib.Core.Path.{_≡_, refl, sym, ap, _∙_}
 use mathlib.Core.Bool.{Bool, true, false, not}
 use mathlib.Core.List.{List, [], _∷_}
 use native.Mathlib.Omega.{arith}
-use lib.ListN.{length, drop}
+use lib.ListN.{length, getD, drop}
 use lib.Dec.{leb, eqb}
 use borrow.Author.Tests.{eqb-true, eqb-false, leb-true, leb-false}
 use Rattle.text.specs.Bytes.{within, all, front, place}
 use Rattle.text.specs.Private.{Blocks}
-use Rattle.text.proofs.Tests.{by-test}
+use Rattle.text.proofs.Tests.{by-test, and-left, and-right}
 use Rattle.text.proofs.Bounds.{under, over, inside}
 use Rattle.text.proofs.Front.{front-in, front-out, front-length, counted-within, counted-last}
 
 module _ (w : ℕ → Bool) where
+  -- by each byte
+  pub all-each : (s : List ℕ) → ((i : ℕ) → i < length s → w (getD s i 0) ≡ true) → all w s ≡ true
+  unfolding all
+  all-each [] f = refl
+  all-each (b ∷ s) f = rw (f 0 (omega arith)) (all-each s (λ i l. f (suc i) (omega arith)))
+
+  pub all-at : (s : List ℕ) → all w s ≡ true → (i : ℕ) → i < length s → w (getD s i 0) ≡ true
+  unfolding all
+  all-at [] e i l = absurd (omega arith)
+  all-at (b ∷ s) e zero l = and-left (w b) (all w s) e
+  all-at (b ∷ s) e (suc i) l = all-at s (and-right (w b) (all w s) e) i (omega arith)
+
+  -- by those at the front
   all-in : (s : List ℕ) → front w s ≡ length s → all w s ≡ true
   unfolding all
   all-in [] e = refl

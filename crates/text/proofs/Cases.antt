@@ -1,9 +1,9 @@
 -- Pairs of texts compared, computed from the definitions. Assumes nothing.
 use Prim.Native.Nat.{ℕ}
 use mathlib.Core.Path.{_≡_, refl}
-use mathlib.Core.Bool.{Bool, true, false}
+use mathlib.Core.Bool.{Bool, true, false, _&&_}
 use mathlib.Core.List.{List, [], _∷_, map}
-use Rattle.text.specs.Bytes.{bytes, same, begins, first, read}
+use Rattle.text.specs.Bytes.{bytes, within, all, same, begins, first, read}
 use Rattle.text.specs.declared.Found.{Found}
 use Rattle.text.specs.declared.Found.the-variants.{At, Nowhere}
 use Rattle.text.specs.declared.Case.the-variants.{Small}
@@ -50,3 +50,30 @@ computed r =
 pub rows-hold : map computed rows ≡ map said rows
 unfolding same begins first
 rows-hold = refl
+
+-- a text, another and a bound: whether they are the same and have no byte below it
+pub record Bounded : Type 0 where
+  pub text : List ℕ
+  pub other : List ℕ
+  pub lo : ℕ
+  pub same-from : Bool
+
+abbrev bounded : List ℕ → List ℕ → ℕ → Bool → Bounded
+bounded s t n b = record { text = s; other = t; lo = n; same-from = b }
+
+abbrev pub bounds : List Bounded
+bounds =
+    bounded (bytes "charset") (bytes "charset") 97 true
+    -- the least byte is the bound, and is below the next
+    ∷ bounded (bytes "charset") (bytes "charset") 98 false
+    ∷ bounded (bytes "charset") (bytes "charsets") 97 false
+    ∷ bounded (bytes "charset") (bytes "charsex") 97 false
+    -- a byte 0 in both is the same, and is below 1
+    ∷ bounded (0 ∷ []) (0 ∷ []) 0 true
+    ∷ bounded (0 ∷ []) (0 ∷ []) 1 false
+    ∷ bounded [] [] 255 true
+    ∷ []
+
+pub bounds-hold : map (λ r. same (r .other) (r .text) && all (within (r .lo, 255)) (r .other)) bounds ≡ map (λ r. r .same-from) bounds
+unfolding same all
+bounds-hold = refl

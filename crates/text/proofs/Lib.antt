@@ -9,6 +9,7 @@ pub mod Cuts
 pub mod Placed
 pub mod Parts
 pub mod Same
+pub mod Lowest
 pub mod Sought
 pub mod Unique
 pub mod Cases

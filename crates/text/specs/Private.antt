@@ -3,7 +3,7 @@ use Prim.Native.Nat.{ℕ, _+_, _<_, _≤_}
 use mathlib.Core.Path.{_≡_}
 use mathlib.Core.Bool.{Bool, true, false, not}
 use mathlib.Core.List.{List, [], _∷_}
-use lib.ListN.{length, drop}
+use lib.ListN.{length, getD, drop}
 use lib.Dec.{eqb}
 use Rattle.text.specs.Bytes.{within, front}
 use Rattle.text.specs.declared.Run.{Run}
@@ -42,3 +42,17 @@ differences (a ∷ s) (b ∷ t) = differOf a b ∷ differences s t
 
 abbrev pub alike : ℕ → Bool
 alike d = eqb d 0
+
+-- the byte that two texts have in common, or 0 where they differ
+abbrev pub commonOf : ℕ → ℕ → ℕ
+commonOf a b = elim (eqb a b) [ true ↦ a | false ↦ 0 ]
+
+-- from a place up to another, no byte that two texts have in common is below a bound
+abbrev pub Over : List ℕ → List ℕ → ℕ → ℕ → ℕ → Type 0
+Over s t from to lo = (i : ℕ) → from ≤ i → i < to → lo ≤ commonOf (getD s i 0) (getD t i 0)
+
+-- the least of a byte and of those in common
+pub record Least (s t : List ℕ) (from to most r : ℕ) : Type 0 where
+  pub few : r ≤ most
+  pub over : Over s t from to r
+  pub largest : (lo : ℕ) → lo ≤ most → Over s t from to lo → lo ≤ r

@@ -1,12 +1,13 @@
 // Texts of bytes: the small questions that the layers above share. How far bytes within bounds go on, where a byte stands first; whether
 // texts are the same, as written or in small letters, and where one stands in another. Not in the Rust, which has them from std.
 ghost use mathlib.Core.Path.{_≡_};
+ghost use mathlib.Core.Bool.{_&&_};
 ghost use mathlib.Core.List.{map};
 ghost use Prim.Native.Nat.{_+_, _≤_};
 ghost use lib.ListN.{length, drop};
 ghost use lib.Dec.{leb};
 ghost use Rattle.text.specs.Bytes.{within, all, front, place, same, begins, first, small, read};
-ghost use Rattle.text.specs.Private.{inRun, Flags, Blocks, differOf, differences, alike};
+ghost use Rattle.text.specs.Private.{inRun, Flags, Blocks, differOf, differences, alike, commonOf, Least};
 
 // A part of a text, its start and its length, or none.
 pub enum Stretch {
@@ -256,6 +257,102 @@ pub fn equal(s: &[u8], other: &[u8]) -> bool
         return false;
     }
     same_block(s, other, n - 16)
+}
+
+// The byte that two texts have in common at a place, or 0 where they differ.
+fn common(a: u8, b: u8) -> u8
+    ensures { λ r. ⌜ r ≡ commonOf a b ⌝ }
+{
+    if a == b { a } else { 0 }
+}
+
+// The least of a byte and of those that two texts have in common at 16 places. It is gathered as the flags in `block`.
+fn least(s: &[u8], other: &[u8], i: usize, most: u8) -> u8
+    requires { ⌜ (i + 16 ≤ length (now s)) × (length (now s) ≡ length (now other)) ⌝ }
+    ensures { λ r. ⌜ Least (now (s .entry)) (now (other .entry)) i (i + 16) most r ⌝ }
+{
+    let mut z = most;
+    let mut k = 0;
+    while k < 16 {
+        let v = common(s[i + k], other[i + k]);
+        if v < z {
+            z = v;
+        }
+        k += 1;
+    }
+    z
+}
+
+// The same at 32 places and at 32 more, with none left out between them.
+fn least_four(s: &[u8], other: &[u8], i: usize, j: usize, most: u8) -> u8
+    requires { ⌜ (i ≤ j) × (j ≤ i + 32) × (j + 32 ≤ length (now s)) × (length (now s) ≡ length (now other)) ⌝ }
+    ensures { λ r. ⌜ Least (now (s .entry)) (now (other .entry)) i (j + 32) most r ⌝ }
+{
+    least(
+        s,
+        other,
+        j + 16,
+        least(
+            s,
+            other,
+            j,
+            least(s, other, i + 16, least(s, other, i, most)),
+        ),
+    )
+}
+
+// The least byte that two texts have in common, byte by byte.
+fn least_short(s: &[u8], other: &[u8]) -> u8
+    requires { ⌜ length (now s) ≡ length (now other) ⌝ }
+    ensures { λ r. ⌜ Least (now (s .entry)) (now (other .entry)) 0 (length (now (s .entry))) 255 r ⌝ }
+{
+    let mut z: u8 = 255;
+    let mut k = 0;
+    while k < s.len() {
+        let v = common(s[k], other[k]);
+        if v < z {
+            z = v;
+        }
+        k += 1;
+    }
+    z
+}
+
+// The same by blocks, the last of which ends with the texts. No block is tested by itself: the length alone decides which way this goes.
+fn least_of(s: &[u8], other: &[u8]) -> u8
+    requires { ⌜ length (now s) ≡ length (now other) ⌝ }
+    ensures { λ r. ⌜ Least (now (s .entry)) (now (other .entry)) 0 (length (now (s .entry))) 255 r ⌝ }
+{
+    let n = s.len();
+    if n < 16 {
+        return least_short(s, other);
+    }
+    if n <= 32 {
+        return least(s, other, n - 16, least(s, other, 0, 255));
+    }
+    if n <= 64 {
+        return least_four(s, other, 0, n - 32, 255);
+    }
+    let mut z: u8 = 255;
+    let mut i = 0;
+    while 64 < n - i {
+        z = least_four(s, other, i, i + 32, z);
+        i += 64;
+    }
+    least_four(s, other, n - 64, n - 32, z)
+}
+
+// Whether two texts are the same and have no byte below a bound, in one pass: the least byte that they have in common tells both.
+pub fn same_from(s: &[u8], other: &[u8], lo: u8) -> bool
+    ensures { λ r. ⌜ r ≡ (same (now (other .entry)) (now (s .entry)) && all (within (lo, 255)) (now (other .entry))) ⌝ }
+{
+    if lo == 0 {
+        return equal(s, other);
+    }
+    if s.len() != other.len() {
+        return false;
+    }
+    lo <= least_of(s, other)
 }
 
 // Whether a text in small letters is the other text.
