@@ -1,5 +1,5 @@
 -- Where the id of an original ends that begins with a key and a NUL. Assumes nothing.
-use Prim.Native.Nat.{ℕ, suc, _+_, _-_, _<_, _≤_}
+use Prim.Native.Nat.{ℕ, zero, suc, _+_, _-_, _<_, _≤_}
 use mathlib.Core.Path.{_≡_, refl, sym, ap, _∙_}
 use mathlib.Core.Bool.{Bool, true, false, not, _&&_}
 use mathlib.Core.List.{List, [], _∷_, _++_}
@@ -7,16 +7,21 @@ use mathlib.Core.Logic.{⊎-elim}
 use native.Mathlib.Omega.{arith}
 use native.Mathlib.Nat.{eq-or-lt-of-le}
 use native.Mathlib.Numerals.{add-one}
-use lib.ListN.{length, getD, take, drop, length-append}
+use lib.ListN.{length, getD, take, drop, length-append, take-append-drop}
+use lib.Seq.{length-take-le}
 use lib.Dec.{leb, eqb}
 use borrow.Author.Tests.{eq-eqb, ne-eqb, eqb-true, eqb-false, leb-true}
-use Rattle.text.specs.Bytes.{within, all, front, place}
+use Rattle.text.specs.Bytes.{within, all, front, place, same}
 use Rattle.text.proofs.Tests.{never, by-test, and-left, and-right}
 use Rattle.text.proofs.Front.{front-in, front-out, front-length}
+use Rattle.text.proofs.Walk.{rest-at}
+use Rattle.text.proofs.Same.{same-true, same-refl}
 use Rattle.container_layout.specs.Mo.{idEnd}
 use Rattle.container_layout.proofs.Marks.{without, with-context}
 use Rattle.lookup_scan.specs.Keys.{keyOf}
-use Rattle.lookup_scan.specs.Private.{Begun}
+use Rattle.lookup_scan.specs.Private.{Ending, hasFrom, hasKey, IdIn}
+use Rattle.lookup_scan.specs.declared.Id.{Id}
+use Rattle.lookup_scan.specs.declared.Id.the-variants.{From, Nowhere}
 
 -- a byte below 5 is none of those from 5 on
 other : (x b : ℕ) → x < 5 → within (5, 0xFF) b ≡ true → not (eqb b x) ≡ true
@@ -45,40 +50,40 @@ joined [] i r b = refl
 joined (a ∷ c) i r b = ap (λ (l : List ℕ). a ∷ l) (joined c i r b)
 
 -- with a context, at the key's end
-with-one : (o c i : List ℕ) {n : ℕ} → n ≡ length (keyOf true c i) → Begun o (keyOf true c i) → all (within (5, 0xFF)) i ≡ true → all (within (5, 0xFF)) c ≡ true
-    → true ≡ eqb (idEnd o) n
-with-one o c i {n} e g u v =
-    let w : o ≡ c ++ 4 ∷ (i ++ 0 ∷ g .rest) = g .is ∙ joined c i (0 ∷ g .rest) 4 in
+with-one : (o c i rest : List ℕ) {n : ℕ} → n ≡ length (keyOf true c i) → o ≡ keyOf true c i ++ 0 ∷ rest → all (within (5, 0xFF)) i ≡ true → all (within (5, 0xFF)) c ≡ true
+    → idEnd o ≡ n
+with-one o c i rest {n} e g u v =
+    let w : o ≡ c ++ 4 ∷ (i ++ 0 ∷ rest) = g ∙ joined c i (0 ∷ rest) 4 in
     let z : length c + 0 ≡ length c = omega arith in
-    let f : place 4 o ≡ length c = ap (place 4) w ∙ past 4 (omega arith) c (4 ∷ (i ++ 0 ∷ g .rest)) v ∙ ap (λ (k : ℕ). length c + k) (at-once 4 (i ++ 0 ∷ g .rest)) ∙ z in
-    let d : drop (length c + 1) o ≡ i ++ 0 ∷ g .rest = ap (drop (length c + 1)) w ∙ dropped c 4 (i ++ 0 ∷ g .rest) in
+    let f : place 4 o ≡ length c = ap (place 4) w ∙ past 4 (omega arith) c (4 ∷ (i ++ 0 ∷ rest)) v ∙ ap (λ (k : ℕ). length c + k) (at-once 4 (i ++ 0 ∷ rest)) ∙ z in
+    let d : drop (length c + 1) o ≡ i ++ 0 ∷ rest = ap (drop (length c + 1)) w ∙ dropped c 4 (i ++ 0 ∷ rest) in
     let y : length i + 0 ≡ length i = omega arith in
-    let p : place 0 (drop (length c + 1) o) ≡ length i = ap (place 0) d ∙ past 0 (omega arith) i (0 ∷ g .rest) u ∙ ap (λ (k : ℕ). length i + k) (at-once 0 (g .rest)) ∙ y in
-    let l : length o ≡ length c + suc (length (i ++ 0 ∷ g .rest)) = ap length w ∙ length-append c (4 ∷ (i ++ 0 ∷ g .rest)) in
+    let p : place 0 (drop (length c + 1) o) ≡ length i = ap (place 0) d ∙ past 0 (omega arith) i (0 ∷ rest) u ∙ ap (λ (k : ℕ). length i + k) (at-once 0 rest) ∙ y in
+    let l : length o ≡ length c + suc (length (i ++ 0 ∷ rest)) = ap length w ∙ length-append c (4 ∷ (i ++ 0 ∷ rest)) in
     let q = with-context o {four = length c} {end = length c + 1 + length i} (sym f) (omega (arith, l)) (ap (λ (k : ℕ). length c + 1 + k) (sym p)) .end in
-    sym (eq-eqb (idEnd o) n (omega (arith, q, e, length-append c (4 ∷ i))))
+    omega (arith, q, e, length-append c (4 ∷ i))
 
 -- without one, where no byte 4 comes after it
-without-one : (o i : List ℕ) {n r : ℕ} → n ≡ length i → Begun o i → all (within (5, 0xFF)) i ≡ true → r ≡ n + 1 + place 4 (drop (n + 1) o) → eqb r (length o) ≡ eqb (idEnd o) n
-without-one o i {n} {r} e g u k =
+without-one : (o i rest : List ℕ) {n r : ℕ} → n ≡ length i → o ≡ i ++ 0 ∷ rest → all (within (5, 0xFF)) i ≡ true → r ≡ n + 1 + place 4 (drop (n + 1) o) → eqb r (length o) ≡ eqb (idEnd o) n
+without-one o i rest {n} {r} e g u k =
     by-test (eqb r (length o) ≡ eqb (idEnd o) n) (eqb r (length o))
     (λ t. t ∙ sym (eq-eqb (idEnd o) n (omega (arith, sym (without o {end = length i} (omega (arith, four, eqb-true r (length o) t)) (sym nul) .end), e))))
     (λ t. t ∙ sym (ne-eqb (idEnd o) n (λ z. later (eqb-false r (length o) t) z)))
   where
-    d : drop (n + 1) o ≡ g .rest
-    d = rw e (ap (drop (length i + 1)) (g .is) ∙ dropped i 0 (g .rest))
+    d : drop (n + 1) o ≡ rest
+    d = rw e (ap (drop (length i + 1)) g ∙ dropped i 0 (rest))
 
     z : length i + 0 ≡ length i
     z = omega arith
 
     nul : place 0 o ≡ length i
-    nul = ap (place 0) (g .is) ∙ past 0 (omega arith) i (0 ∷ g .rest) u ∙ ap (λ (m : ℕ). length i + m) (at-once 0 (g .rest)) ∙ z
+    nul = ap (place 0) g ∙ past 0 (omega arith) i (0 ∷ rest) u ∙ ap (λ (m : ℕ). length i + m) (at-once 0 (rest)) ∙ z
 
     four : place 4 o ≡ r
     four =
-        let a : place 4 (0 ∷ g .rest) ≡ suc (place 4 (g .rest)) = front-in (λ b. not (eqb b 4)) 0 (g .rest) refl in
-        let b : place 4 o ≡ length i + suc (place 4 (g .rest)) = ap (place 4) (g .is) ∙ past 4 (omega arith) i (0 ∷ g .rest) u ∙ ap (λ (m : ℕ). length i + m) a in
-        let f : place 4 (drop (n + 1) o) ≡ place 4 (g .rest) = ap (place 4) d in
+        let a : place 4 (0 ∷ rest) ≡ suc (place 4 (rest)) = front-in (λ b. not (eqb b 4)) 0 (rest) refl in
+        let b : place 4 o ≡ length i + suc (place 4 (rest)) = ap (place 4) g ∙ past 4 (omega arith) i (0 ∷ rest) u ∙ ap (λ (m : ℕ). length i + m) a in
+        let f : place 4 (drop (n + 1) o) ≡ place 4 (rest) = ap (place 4) d in
         omega (arith, b, f, k, e)
 
     later : (r ≡ length o → ⊥) → idEnd o ≡ n → ⊥
@@ -87,17 +92,86 @@ without-one o i {n} {r} e g u k =
         let q = with-context o {four = place 4 o} {end = place 4 o + 1 + place 0 (drop (place 4 o + 1) o)} refl l refl .end in
         omega (arith, q, four, k, y)
 
--- the original is longer than the key
-pub begun-longer : (o key : List ℕ) → Begun o key → length key < length o
-begun-longer o key g = omega (arith, ap length (g .is), length-append key (0 ∷ g .rest))
+-- by whether a context is given
+module _ (o c i rest : List ℕ) {n : ℕ} where
+  alone : (given : Bool) {k : ℕ} → given ≡ false → n ≡ length (keyOf given c i) → o ≡ keyOf given c i ++ 0 ∷ rest → all (within (5, 0xFF)) i ≡ true
+      → k ≡ n + 1 + place 4 (drop (n + 1) o) → eqb k (length o) ≡ eqb (idEnd o) n
+  alone true f e g u k = absurd (never (sym f))
+  alone false f e g u k = without-one o i rest e g u k
 
-module _ (o c i : List ℕ) where
-  pub ends-alone : (given : Bool) {n r : ℕ} → given ≡ false → n ≡ length (keyOf given c i) → Begun o (keyOf given c i) → true ≡ all (within (5, 0xFF)) i
-      → r ≡ n + 1 + place 4 (drop (n + 1) o) → eqb r (length o) ≡ eqb (idEnd o) n
-  ends-alone true f e g u k = absurd (never (sym f))
-  ends-alone false f e g u k = without-one o i e g (sym u) k
+  after : (given : Bool) → given ≡ true → n ≡ length (keyOf given c i) → o ≡ keyOf given c i ++ 0 ∷ rest → all (within (5, 0xFF)) i ≡ true
+      → all (within (5, 0xFF)) c ≡ true → true ≡ eqb (idEnd o) n
+  after true f e g u v = sym (eq-eqb (idEnd o) n (with-one o c i rest e g u v))
+  after false f e g u v = absurd (never f)
 
-  pub ends-context : (given : Bool) {n : ℕ} → given ≡ true → n ≡ length (keyOf given c i) → Begun o (keyOf given c i) → true ≡ all (within (5, 0xFF)) i
-      → true ≡ all (within (5, 0xFF)) c → true ≡ eqb (idEnd o) n
-  ends-context true f e g u v = with-one o c i e g (sym u) (sym v)
-  ends-context false f e g u v = absurd (never f)
+-- an original begins with the key and a NUL
+module _ (o : List ℕ) (n : ℕ) (key : List ℕ) where
+  begun : Ending o n key → same key (take n o) ≡ true → o ≡ key ++ 0 ∷ drop (n + 1) o
+  begun g e =
+      sym (take-append-drop n o) ∙ ap (λ (k : List ℕ). k ++ drop n o) (sym (same-true key _ e))
+      ∙ ap (λ (k : List ℕ). key ++ k) (rest-at o n (g .longer) ∙ ap (λ (x : ℕ). x ∷ drop (n + 1) o) (g .nul))
+
+  pub has-key : take n o ≡ key → idEnd o ≡ n → hasKey o n key ≡ true
+  unfolding hasKey
+  has-key e f = rw (e, same-refl key) (eq-eqb (idEnd o) n f)
+
+  pub key-has : hasKey o n key ≡ true → (same key (take n o) && eqb (idEnd o) n) ≡ true
+  unfolding hasKey
+  key-has e = e
+
+cut-front : (s : List ℕ) (from m : ℕ) → from ≤ m → drop from (take m s) ≡ take (m - from) (drop from s)
+cut-front s zero m h = let e : m ≡ m - 0 = omega arith in ap (λ (k : ℕ). take k s) e
+cut-front s (suc from) zero h = absurd (omega arith)
+cut-front [] (suc from) (suc m) h = go (suc m - suc from)
+  where
+    go : (k : ℕ) → [] ≡ take {A = ℕ} k []
+    go zero = refl
+    go (suc k) = refl
+cut-front (b ∷ s) (suc from) (suc m) h = let e : m - from ≡ suc m - suc from = omega arith in cut-front s from m (omega arith) ∙ ap (λ (k : ℕ). take k (drop from s)) e
+
+module _ (o : List ℕ) (n : ℕ) where
+  -- by its bytes, then by where its id ends
+  pub other-bytes : (from : ℕ) (i : List ℕ) {r : Bool} → r ≡ same i (take (n - from) (drop from o)) → r ≡ false → false ≡ hasFrom o n from i
+  unfolding hasFrom
+  other-bytes from i e f = rw (← e, f)
+
+  pub by-end : (from : ℕ) (i : List ℕ) {k : ℕ} {r : Bool} → r ≡ same i (take (n - from) (drop from o)) → r ≡ true → k ≡ idEnd o → eqb k n ≡ hasFrom o n from i
+  unfolding hasFrom
+  by-end from i e f g = rw (← e, f, g)
+
+  module _ (c i : List ℕ) (given : Bool) (g : Ending o n (keyOf given c i)) where
+    pub no-id : {x : Id} → IdIn given c (take n o) x → x ≡ Nowhere → false ≡ hasKey o n (keyOf given c i)
+    unfolding hasKey
+    no-id p e = let q : IdIn given c (take n o) Nowhere = rw (← e) p in rw (q .ids i)
+
+    module _ {x : Id} {from : ℕ} (p : IdIn given c (take n o) x) (e : x ≡ From from) where
+      here : IdIn given c (take n o) (From from)
+      here = rw (← e) p
+
+      pub from-inside : from ≤ n
+      from-inside = omega (arith, here .ids .0, length-take-le n o (omega (arith, g .longer)))
+
+      by-id : same (keyOf given c i) (take n o) ≡ same i (take (n - from) (drop from o))
+      by-id = here .ids .1 i ∙ ap (same i) (cut-front o from n from-inside)
+
+      pub any-key : {r : Bool} → r ≡ hasFrom o n from i → r ≡ hasKey o n (keyOf given c i)
+      unfolding hasFrom hasKey
+      any-key f = f ∙ ap (λ (b : Bool). b && eqb (idEnd o) n) (sym by-id)
+
+      -- an id without marks of its own
+      module _ {r : Bool} (f : r ≡ (same i (take (n - from) (drop from o)) && all (within (5, 0xFF)) i)) (h : r ≡ true) where
+        bytes : same (keyOf given c i) (take n o) ≡ true
+        bytes = by-id ∙ and-left (same i (take (n - from) (drop from o))) (all (within (5, 0xFF)) i) (sym f ∙ h)
+
+        plain : all (within (5, 0xFF)) i ≡ true
+        plain = and-right (same i (take (n - from) (drop from o))) (all (within (5, 0xFF)) i) (sym f ∙ h)
+
+        ended : {b : Bool} → b ≡ eqb (idEnd o) n → b ≡ hasKey o n (keyOf given c i)
+        unfolding hasKey
+        ended d = rw bytes d
+
+        pub plain-alone : {k : ℕ} → given ≡ false → k ≡ n + 1 + place 4 (drop (n + 1) o) → eqb k (length o) ≡ hasKey o n (keyOf given c i)
+        plain-alone z d = ended (alone o c i (drop (n + 1) o) given z (g .size) (begun o n (keyOf given c i) g bytes) plain d)
+
+        pub plain-context : {b : Bool} → given ≡ true → b ≡ all (within (5, 0xFF)) c → b ≡ true → true ≡ hasKey o n (keyOf given c i)
+        plain-context z d t = ended (after o c i (drop (n + 1) o) given z (g .size) (begun o n (keyOf given c i) g bytes) plain (sym d ∙ t))

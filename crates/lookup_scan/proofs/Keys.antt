@@ -9,11 +9,12 @@ use lib.ListN.{length, getD, take, drop, length-append}
 use lib.Dec.{eqb}
 use borrow.Author.Tests.{ne-eqb}
 use Rattle.text.specs.Bytes.{same}
-use Rattle.text.proofs.Tests.{and-none, and-assoc}
-use Rattle.text.proofs.Walk.{part-from}
+use Rattle.text.proofs.Tests.{never, and-none, and-assoc}
 use Rattle.text.proofs.Same.{other-length}
 use Rattle.lookup_scan.specs.Keys.{keyOf}
 use Rattle.lookup_scan.specs.Promise.{Sized}
+use Rattle.lookup_scan.specs.Private.{IdIn}
+use Rattle.lookup_scan.specs.declared.Id.the-variants.{From, Nowhere}
 use Rattle.lookup_scan.specs.declared.Size.{Size}
 use Rattle.lookup_scan.specs.declared.Size.the-variants.{Is, TooLong}
 
@@ -28,27 +29,30 @@ same-split (x ∷ c) i (b ∷ key) h =
     ∙ sym (and-assoc (eqb x b) (same c (take (length c) key)) (eqb 4 (getD key (length c) 0) && same i (drop (length c + 1) key)))
     ∙ rw (add-one, add-one)
 
-module _ (c i key : List ℕ) where
-  pub key-length : length (keyOf true c i) ≡ length c + 1 + length i
-  key-length = omega (arith, length-append c (4 ∷ i))
+-- where the id stands in a key
+module _ (c key : List ℕ) where
+  pub id-alone : (given : Bool) → given ≡ false → IdIn given c key (From 0)
+  id-alone true e = absurd (never (sym e))
+  id-alone false e = record { ids = (omega arith, λ i. refl) }
 
-  pub too-short : length key ≤ length c → false ≡ same (keyOf true c i) key
-  too-short h = sym (other-length (keyOf true c i) key (λ e. omega (arith, key-length)))
+  module _ (given : Bool) (z : given ≡ true) where
+    none : ((i : List ℕ) → same (keyOf true c i) key ≡ false) → IdIn given c key Nowhere
+    none h = rw z (record { ids = h })
 
-  module _ (h : length c < length key) where
-    pub not-four : (getD key (length c) 0 ≡ 4 → ⊥) → false ≡ same (keyOf true c i) key
-    not-four e =
-        let z : eqb 4 (getD key (length c) 0) ≡ false = ne-eqb 4 (getD key (length c) 0) (λ q. e (sym q)) in
-        sym (same-split c i key h ∙ rw z (and-none (same c (take (length c) key))))
+    pub id-short : length key ≤ length c → IdIn given c key Nowhere
+    id-short h = none (λ i. other-length (keyOf true c i) key (λ e. omega (arith, length-append c (4 ∷ i))))
 
-    pub other-context : {r : Bool} → r ≡ same c (take (length c) key) → r ≡ false → false ≡ same (keyOf true c i) key
-    other-context e f = sym (same-split c i key h ∙ rw (← e, f))
+    module _ (h : length c < length key) where
+      pub id-not-four : (getD key (length c) 0 ≡ 4 → ⊥) → IdIn given c key Nowhere
+      id-not-four e =
+          let f : eqb 4 (getD key (length c) 0) ≡ false = ne-eqb 4 (getD key (length c) 0) (λ q. e (sym q)) in
+          none (λ i. same-split c i key h ∙ rw f (and-none (same c (take (length c) key))))
 
-    pub by-id : {q r : Bool} → getD key (length c) 0 ≡ 4 → q ≡ same c (take (length c) key) → q ≡ true
-        → r ≡ same i (take (length key - (length c + 1)) (drop (length c + 1) key)) → r ≡ same (keyOf true c i) key
-    by-id f e g k =
-        k ∙ ap (same i) (part-from key (length c + 1))
-        ∙ sym (same-split c i key h ∙ rw (← e, g, f))
+      pub id-other : {r : Bool} → r ≡ same c (take (length c) key) → r ≡ false → IdIn given c key Nowhere
+      id-other e f = none (λ i. same-split c i key h ∙ rw (← e, f))
+
+      pub id-after : {r : Bool} → getD key (length c) 0 ≡ 4 → r ≡ same c (take (length c) key) → r ≡ true → IdIn given c key (From (length c + 1))
+      id-after f e g = rw z (record { ids = (omega arith, λ i. same-split c i key h ∙ rw (← e, g, f)) })
 
 -- the length of a key, in a file of that size
 module _ (size : ℕ) (c i : List ℕ) where

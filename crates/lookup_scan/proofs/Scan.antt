@@ -4,7 +4,6 @@ use mathlib.Core.Path.{_≡_, refl, sym, ap, _∙_}
 use mathlib.Core.Bool.{Bool, true, false}
 use mathlib.Core.List.{List}
 use native.Mathlib.Omega.{arith}
-use native.Mathlib.Nat.{add-sub-cancel-left}
 use lib.ListN.{length, take, drop}
 use borrow.Author.Tests.{leb-false, lt-leb}
 use Rattle.text.specs.Bytes.{same}
@@ -92,14 +91,10 @@ module _ (s : List ℕ) (t : Tables) (key : List ℕ) where
   told-none i e f = hit-false i (ap (isKey s key) (sym e ∙ f))
 
   module _ {x : Entry} {a n b m : ℕ} (i : ℕ) (e : x ≡ entry s t i) (f : x ≡ entries.At a n b m) where
-    pub told-key : {r : Bool} → r ≡ same key (take (a + n - a) (drop a s)) → r ≡ true → hit.At i b m ≡ hitIf s t key i
-    told-key g h =
-        let q : isKey s key (entry s t i) ≡ true = ap (isKey s key) (sym e ∙ f) ∙ ap (λ (k : ℕ). same key (take k (drop a s))) (sym (add-sub-cancel-left a n)) ∙ sym g ∙ h in
+    pub told-key : same key (take n (drop a s)) ≡ true → hit.At i b m ≡ hitIf s t key i
+    told-key h =
+        let q : isKey s key (entry s t i) ≡ true = ap (isKey s key) (sym e ∙ f) ∙ h in
         sym (hit-true i q ∙ ap (hitOf i) (sym e ∙ f))
-
-    pub told-other : {r : Bool} → r ≡ same key (take (a + n - a) (drop a s)) → r ≡ false → hit.Missing ≡ hitIf s t key i
-    told-other g h =
-        hit-false i (ap (isKey s key) (sym e ∙ f) ∙ ap (λ (k : ℕ). same key (take k (drop a s))) (sym (add-sub-cancel-left a n)) ∙ sym g ∙ h)
 
 -- where the scan starts: where no cell has room, or at the count
 module _ (s : List ℕ) (t : Tables) {r : ℕ} where

@@ -1,13 +1,17 @@
 -- What the functions behind the public ones promise.
-use Prim.Native.Nat.{ℕ, _+_, _<_, _≤_}
+use Prim.Native.Nat.{ℕ, _+_, _-_, _<_, _≤_}
 use mathlib.Core.Path.{_≡_}
-use mathlib.Core.Bool.{Bool, false}
-use mathlib.Core.List.{List, _∷_, _++_}
-use lib.ListN.{length, getD}
-use Rattle.lookup_scan.specs.Keys.{isKey}
-use Rattle.container_layout.specs.Mo.{hasCell, string, entry}
+use mathlib.Core.Bool.{Bool, false, _&&_}
+use mathlib.Core.List.{List}
+use lib.ListN.{length, getD, take, drop}
+use lib.Dec.{eqb}
+use Rattle.text.specs.Bytes.{same}
+use Rattle.lookup_scan.specs.Keys.{keyOf, isKey}
+use Rattle.container_layout.specs.Mo.{hasCell, string, entry, idEnd}
 use Rattle.text.specs.declared.Stretch.the-variants as stretch
 use Rattle.container_layout.specs.declared.Tables.{Tables}
+use Rattle.lookup_scan.specs.declared.Id.{Id}
+use Rattle.lookup_scan.specs.declared.Id.the-variants.{From, Nowhere}
 
 -- entry i may have a key of n bytes; where it may not, it has none of that length
 pub record MayBe (s : List ℕ) (t : Tables) (i n : ℕ) (r : Bool) : Type 0 where
@@ -24,7 +28,24 @@ pub record Starts (s : List ℕ) (t : Tables) (i at len n : ℕ) : Type 0 where
   pub long : n ≤ len
   pub nul : getD s (at + n) 0 ≡ 0
 
--- an original begins with the key and a NUL
-pub record Begun (o key : List ℕ) : Type 0 where
-  pub rest : List ℕ
-  pub is : o ≡ key ++ 0 ∷ rest
+-- an original with the byte after it, and a NUL where the key would end
+pub record Ending (o : List ℕ) (n : ℕ) (key : List ℕ) : Type 0 where
+  pub size : n ≡ length key
+  pub longer : n < length o
+  pub nul : getD o n 0 ≡ 0
+
+-- the original has these bytes from a place up to n, and its id ends there
+unfoldable pub hasFrom : List ℕ → ℕ → ℕ → List ℕ → Bool
+hasFrom o n from id = same id (take (n - from) (drop from o)) && eqb (idEnd o) n
+
+-- it begins with the key, and its id ends there
+unfoldable pub hasKey : List ℕ → ℕ → List ℕ → Bool
+hasKey o n key = same key (take n o) && eqb (idEnd o) n
+
+-- of the keys with this context those are the same whose ids are, or none
+abbrev pub Ids : Bool → List ℕ → List ℕ → Id → Type 0
+Ids given c key (From from) = (from ≤ length key) × ((i : List ℕ) → same (keyOf given c i) key ≡ same i (drop from key))
+Ids given c key Nowhere = (i : List ℕ) → same (keyOf given c i) key ≡ false
+
+pub record IdIn (given : Bool) (c key : List ℕ) (r : Id) : Type 0 where
+  pub ids : Ids given c key r

@@ -5,13 +5,10 @@ use container_layout::wide;
 use text::Stretch;
 ghost use mathlib.Core.Path.{_≡_};
 ghost use Prim.Native.Nat.{_+_, _≤_};
-ghost use lib.Dec.{eqb};
-ghost use lib.ListN.{length, getD};
-ghost use Rattle.text.specs.Bytes.{same};
-ghost use Rattle.container_layout.specs.Mo.{string, idEnd};
+ghost use lib.ListN.{length};
 ghost use Rattle.lookup_scan.specs.Keys.{keyOf, lastWith};
 ghost use Rattle.lookup_scan.specs.Promise.{Sized, hitIf};
-ghost use Rattle.lookup_scan.specs.Private.{MayBe, ScanFrom, Begun, Starts};
+ghost use Rattle.lookup_scan.specs.Private.{IdIn, MayBe, ScanFrom, Ending, hasFrom, hasKey, Starts};
 
 // The entry with a key, and where its translation lies.
 pub enum Hit {
@@ -41,25 +38,29 @@ pub fn size_of(size: usize, given: bool, context: &[u8], id: &[u8]) -> Size
     Size::Is(context.len() + 1 + id.len())
 }
 
-// Whether the key is context, byte 4 and id, or where no context is given the id only.
-fn key_is(key: &[u8], given: bool, context: &[u8], id: &[u8]) -> bool
-    ensures { λ r. ⌜ r ≡ same (keyOf given (now (context .entry)) (now (id .entry))) (now (key .entry)) ⌝ }
+// Where the id stands in a key: after context and byte 4, or where no context is given at the beginning.
+enum Id {
+    From(usize),
+    Nowhere,
+}
+
+fn id_in(key: &[u8], given: bool, context: &[u8]) -> Id
+    ensures { λ r. ⌜ IdIn given (now (context .entry)) (now (key .entry)) r ⌝ }
 {
     if !given {
-        return text::equal(key, id);
+        return Id::From(0);
     }
     let n = context.len();
     if key.len() <= n {
-        return false;
+        return Id::Nowhere;
     }
     if key[n] != 4 {
-        return false;
+        return Id::Nowhere;
     }
     if !text::equal(&key[..n], context) {
-        return false;
+        return Id::Nowhere;
     }
-    let after = n + 1;
-    text::equal(&key[after..], id)
+    Id::From(n + 1)
 }
 
 // Whether entry i may have a key of n bytes: its original is long enough, and a NUL stands after so many. Most entries end here.
@@ -77,13 +78,29 @@ fn may_be(file: &[u8], t: Tables, i: usize, n: usize) -> bool
     file[end] == 0
 }
 
-// Whether the id of an original that begins with the key and a NUL ends at that NUL. A key without bytes below 5 has no mark in it but the
-// byte 4 after a context, so that only a byte 4 further on could tell otherwise, and with a context none.
-fn ends_there(o: &[u8], n: usize, given: bool, context: &[u8], id: &[u8]) -> bool
-    requires { ⌜ (n ≡ length (keyOf given (now context) (now id))) × Begun (now o) (keyOf given (now context) (now id)) ⌝ }
-    ensures { λ r. ⌜ r ≡ eqb (idEnd (now (o .entry))) n ⌝ }
+// Whether an original has the key of n bytes whose id stands from a place on, whatever bytes the two have.
+fn has_any_key(o: &[u8], n: usize, from: usize, id: &[u8]) -> bool
+    requires { ⌜ (from ≤ n) × (n ≤ length (now o)) ⌝ }
+    ensures { λ r. ⌜ r ≡ hasFrom (now (o .entry)) n from (now (id .entry)) ⌝ }
 {
-    if text::all_within(id, 5, 0xFF) {
+    if !text::equal(&o[from..n], id) {
+        return false;
+    }
+    let parts = container_layout::split(o);
+    parts.end == n
+}
+
+// Whether an original has the key of n bytes, where a NUL stands after so many. A key without bytes below 5 has no mark in it but the byte 4 after
+// a context, so that only a byte 4 further on could tell otherwise, and with a context none; such an id is told in the one pass that compares it.
+fn has_key(o: &[u8], n: usize, given: bool, context: &[u8], id: &[u8]) -> bool
+    requires { ⌜ Ending (now o) n (keyOf given (now context) (now id)) ⌝ }
+    ensures { λ r. ⌜ r ≡ hasKey (now (o .entry)) n (keyOf given (now (context .entry)) (now (id .entry))) ⌝ }
+{
+    let place = id_in(&o[..n], given, context);
+    let Id::From(from) = place else {
+        return false;
+    };
+    if text::same_from(&o[from..n], id, 5) {
         if !given {
             return text::find_byte_from(o, n + 1, 4) == o.len();
         }
@@ -91,8 +108,7 @@ fn ends_there(o: &[u8], n: usize, given: bool, context: &[u8], id: &[u8]) -> boo
             return true;
         }
     }
-    let parts = container_layout::split(o);
-    parts.end == n
+    has_any_key(o, n, from, id)
 }
 
 // Entry i, where it has the key of n bytes: its original is at a place, and after n bytes has a NUL.
@@ -110,12 +126,8 @@ fn found_at(
     requires { ⌜ (n ≡ length (keyOf given (now context) (now id))) × Starts (now file) t i at len n ⌝ }
     ensures { λ r. ⌜ r ≡ hitIf (now (file .entry)) t (keyOf given (now (context .entry)) (now (id .entry))) i ⌝ }
 {
-    let end = at + n;
-    if !key_is(&file[at..end], given, context, id) {
-        return Hit::Missing;
-    }
     let after = at + len + 1;
-    if !ends_there(&file[at..after], n, given, context, id) {
+    if !has_key(&file[at..after], n, given, context, id) {
         return Hit::Missing;
     }
     let translation = container_layout::string_at(file, t.big, t.translations, i);
