@@ -175,6 +175,7 @@ impl<B: Bytes, S: Search> Catalog<B, S> {
     }
 
     /// The translation of `msg_id`, or `msg_id` itself.
+    #[inline]
     #[must_use]
     pub fn gettext<'c, 't>(&'c self, msg_id: &'t str) -> &'t str
     where
@@ -184,6 +185,7 @@ impl<B: Bytes, S: Search> Catalog<B, S> {
     }
 
     /// The translation of `msg_id` in the form for `n`. Without one, `msg_id` if `n` is 1 and `msg_id_plural` otherwise.
+    #[inline]
     #[must_use]
     pub fn ngettext<'c, 't>(&'c self, msg_id: &'t str, msg_id_plural: &'t str, n: u64) -> &'t str
     where
@@ -193,6 +195,7 @@ impl<B: Bytes, S: Search> Catalog<B, S> {
     }
 
     /// The translation of `msg_id` in the context `msg_context`, or `msg_id` itself.
+    #[inline]
     #[must_use]
     pub fn pgettext<'c, 't>(&'c self, msg_context: &str, msg_id: &'t str) -> &'t str
     where
@@ -203,6 +206,7 @@ impl<B: Bytes, S: Search> Catalog<B, S> {
 
     /// The translation of `msg_id` in the context `msg_context` and in the form for `n`. Without one, `msg_id` if `n` is 1 and
     /// `msg_id_plural` otherwise.
+    #[inline]
     #[must_use]
     pub fn npgettext<'c, 't>(
         &'c self,
@@ -219,6 +223,7 @@ impl<B: Bytes, S: Search> Catalog<B, S> {
     }
 
     /// [`Catalog::gettext`], with how it went and where the text comes from.
+    #[inline]
     #[must_use]
     pub fn answer_gettext<'c, 't>(&'c self, msg_id: &'t str) -> Answer<'t>
     where
@@ -235,6 +240,7 @@ impl<B: Bytes, S: Search> Catalog<B, S> {
     }
 
     /// [`Catalog::ngettext`], with how it went and where the text comes from.
+    #[inline]
     #[must_use]
     pub fn answer_ngettext<'c, 't>(
         &'c self,
@@ -257,6 +263,7 @@ impl<B: Bytes, S: Search> Catalog<B, S> {
     }
 
     /// [`Catalog::pgettext`], with how it went and where the text comes from.
+    #[inline]
     #[must_use]
     pub fn answer_pgettext<'c, 't>(&'c self, msg_context: &str, msg_id: &'t str) -> Answer<'t>
     where
@@ -274,6 +281,7 @@ impl<B: Bytes, S: Search> Catalog<B, S> {
     }
 
     /// [`Catalog::npgettext`], with how it went and where the text comes from.
+    #[inline]
     #[must_use]
     pub fn answer_npgettext<'c, 't>(
         &'c self,
@@ -298,6 +306,7 @@ impl<B: Bytes, S: Search> Catalog<B, S> {
     }
 
     /// [`Catalog::gettext`] over bytes. An id that is not UTF-8 is in no catalog, and comes back.
+    #[inline]
     #[must_use]
     pub fn gettext_bytes<'c, 't>(&'c self, msg_id: &'t [u8]) -> &'t [u8]
     where
@@ -314,6 +323,7 @@ impl<B: Bytes, S: Search> Catalog<B, S> {
     }
 
     /// [`Catalog::ngettext`] over bytes.
+    #[inline]
     #[must_use]
     pub fn ngettext_bytes<'c, 't>(
         &'c self,
@@ -336,6 +346,7 @@ impl<B: Bytes, S: Search> Catalog<B, S> {
     }
 
     /// [`Catalog::pgettext`] over bytes.
+    #[inline]
     #[must_use]
     pub fn pgettext_bytes<'c, 't>(&'c self, msg_context: &[u8], msg_id: &'t [u8]) -> &'t [u8]
     where
@@ -352,6 +363,7 @@ impl<B: Bytes, S: Search> Catalog<B, S> {
     }
 
     /// [`Catalog::npgettext`] over bytes.
+    #[inline]
     #[must_use]
     pub fn npgettext_bytes<'c, 't>(
         &'c self,
@@ -479,6 +491,7 @@ impl<B: Bytes, S: Search> Catalog<B, S> {
 
     // The file's part that an answer names, which lies in the file: `answer-inside`, `plural-inside` and `slots-inside`,
     // crates/gettext_c/proofs/Right.antt.
+    #[inline]
     fn segment<'c, 't>(&'c self, answer: ffi::Answer) -> &'t [u8]
     where
         B: Live<'c, 't>,
@@ -486,6 +499,7 @@ impl<B: Bytes, S: Search> Catalog<B, S> {
         &self.file.live()[answer.start..][..answer.len]
     }
 
+    #[inline]
     fn text<'c, 't>(&'c self, answer: ffi::Answer, id: &'t str, plural_id: &'t str) -> Answer<'t>
     where
         B: Live<'c, 't>,
@@ -514,6 +528,7 @@ impl<B: Bytes, S: Search> Catalog<B, S> {
         }
     }
 
+    #[inline]
     fn bytes<'c, 't>(&'c self, answer: ffi::Answer, id: &'t [u8], plural_id: &'t [u8]) -> &'t [u8]
     where
         B: Live<'c, 't>,

@@ -348,14 +348,17 @@ pub fn index(file: &[u8], r: &Record, slots: &mut [u32]) -> u32 {
 }
 
 // The lookups: in slots where an index is given, else by the scan; with the context, where one is given. In each, what goes as a pointer lives
-// for the call and is only read.
+// for the call and is only read. They are made part of what calls them, in the caller's crate too, so that of an answer, which the library gives in memory,
+// only what is asked for is read.
 
 /// Whether a context is given, and its bytes.
+#[inline]
 fn flagged(context: Option<&[u8]>) -> (u32, &[u8]) {
     (u32::from(context.is_some()), context.unwrap_or(&[]))
 }
 
 /// `gettext`, and with a context `pgettext`.
+#[inline]
 pub fn gettext(
     file: &[u8],
     r: &Record,
@@ -398,6 +401,7 @@ pub fn gettext(
 }
 
 /// `ngettext`, and with a context `npgettext`.
+#[inline]
 pub fn ngettext(
     file: &[u8],
     r: &Record,
