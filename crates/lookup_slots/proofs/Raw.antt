@@ -4,8 +4,8 @@ use mathlib.Core.Path.{_≡_, refl, sym, ap, _∙_}
 use mathlib.Core.List.{List, [], _∷_}
 use native.Mathlib.Omega.{arith}
 use native.Mathlib.Nat.{add-mul-mod-self-right, mod-add-mod, mod-mod}
-use lib.ListN.{length, getD, take, drop}
-use Rattle.text.proofs.Walk.{rest-at, part-from}
+use lib.ListN.{length, getD, drop}
+use Rattle.text.proofs.Walk.{rest-at, rest-end}
 use Rattle.lookup_slots.specs.Hash.{hashFrom}
 use Rattle.lookup_slots.specs.Promise.{Hashes}
 use Rattle.lookup_slots.specs.Private.{adds, wordAt, Polys}
@@ -57,7 +57,7 @@ raw-eight h a b c d e f g i s =
 one : (s : List ℕ) (j k : ℕ) → k ≡ j + 1 → j < length s → drop j s ≡ getD s j 0 ∷ drop k s
 one s j k e h = rest-at s j h ∙ ap (λ (n : ℕ). getD s j 0 ∷ drop n s) (sym e)
 
-next-eight : (s : List ℕ) (i : ℕ) → i + 8 ≤ length s
+pub next-eight : (s : List ℕ) (i : ℕ) → i + 8 ≤ length s
     → drop i s ≡ getD s i 0 ∷ getD s (i + 1) 0 ∷ getD s (i + 2) 0 ∷ getD s (i + 3) 0 ∷ getD s (i + 4) 0 ∷ getD s (i + 5) 0 ∷ getD s (i + 6) 0
     ∷ getD s (i + 7) 0 ∷ drop (i + 8) s
 next-eight s i h =
@@ -86,7 +86,7 @@ pub worded-first : (start : ℕ) (s : List ℕ) {x : ℕ} → start < 4294967296
 worded-first start s l h e = record { inside = omega arith; small = l; word = e; rest = hash-raw start s l }
 
 module _ (start : ℕ) (s : List ℕ) (bytes : (j : ℕ) → getD s j 0 < 256) {h i x r : ℕ} (w : Worded start s h i x) (p : Polys x r) where
-  taken-eight : hashFrom start s ≡ raw (((h * 1954312449) % 4294967296 + r) % 4294967296) (drop (i + 8) s) % 4294967296
+  pub taken-eight : hashFrom start s ≡ raw (((h * 1954312449) % 4294967296 + r) % 4294967296) (drop (i + 8) s) % 4294967296
   taken-eight =
       w .rest ∙ ap (λ (l : List ℕ). raw h l % 4294967296) (next-eight s i (w .inside))
       ∙ raw-eight h (getD s i 0) (getD s (i + 1) 0) (getD s (i + 2) 0) (getD s (i + 3) 0) (getD s (i + 4) 0) (getD s (i + 5) 0) (getD s (i + 6) 0)
@@ -99,11 +99,8 @@ module _ (start : ℕ) (s : List ℕ) (bytes : (j : ℕ) → getD s j 0 < 256) {
       → Worded start s (((h * 1954312449) % 4294967296 + r) % 4294967296) (i + 8) y
   worded-more k e = record { inside = omega arith; small = omega arith; word = e; rest = taken-eight }
 
-  pub worded-last : {q : ℕ}
-      → Hashes (((h * 1954312449) % 4294967296 + r) % 4294967296) (take (length s - (i + 8)) (drop (i + 8) s)) q → Hashes start s q
-  worded-last g = record {
-    is =
-        g .is ∙ ap (hashFrom (((h * 1954312449) % 4294967296 + r) % 4294967296)) (part-from s (i + 8))
-        ∙ hash-raw (((h * 1954312449) % 4294967296 + r) % 4294967296) (drop (i + 8) s) (omega arith) ∙ sym taken-eight;
-    small = g .small;
-  }
+  pub worded-end : length s - (i + 8) ≡ 0 → Hashes start s (((h * 1954312449) % 4294967296 + r) % 4294967296)
+  unfolding raw
+  worded-end e =
+      let z : drop (i + 8) s ≡ [] = rest-end s (i + 8) (omega arith) in
+      record { is = sym (taken-eight ∙ rw z (mod-mod ((h * 1954312449) % 4294967296 + r) 4294967296)); small = omega arith }

@@ -1,8 +1,8 @@
 -- What the functions behind the public ones promise.
-use Prim.Native.Nat.{ℕ, _+_, _*_, _^_, _<_, _≤_}
+use Prim.Native.Nat.{ℕ, _+_, _-_, _*_, _^_, _<_, _≤_}
 use mathlib.Core.Path.{_≡_}
-use mathlib.Core.List.{List}
-use lib.ListN.{getD}
+use mathlib.Core.List.{List, _++_}
+use lib.ListN.{length, getD, drop, replicate}
 use lib.Bits.{bitAnd}
 
 -- eight bytes as a number, and what they add to a hash
@@ -17,6 +17,10 @@ abbrev pub wordAt : List ℕ → ℕ → ℕ
 wordAt s i =
     eight (getD s i 0) (getD s (i + 1) 0) (getD s (i + 2) 0) (getD s (i + 3) 0) (getD s (i + 4) 0) (getD s (i + 5) 0) (getD s (i + 6) 0)
     (getD s (i + 7) 0)
+
+-- the last r bytes, after zeros that make them eight
+abbrev pub lastOf : List ℕ → ℕ → List ℕ
+lastOf s r = replicate (8 - r) 0 ++ drop (length s - r) s
 
 pub record Masks (x mask r : ℕ) : Type 0 where
   pub is : r ≡ bitAnd x mask

@@ -1,10 +1,10 @@
 // The slots of an index beside a catalog: the hash of a key, and how many slots an index uses. Not in the Rust, whose HashMap does both.
 ghost use mathlib.Core.Path.{_≡_};
-ghost use Prim.Native.Nat.{_+_, _<_, _≤_};
+ghost use Prim.Native.Nat.{_+_, _%_, _^_, _<_, _≤_};
 ghost use lib.ListN.{length};
 ghost use Rattle.lookup_slots.specs.Used.{used};
 ghost use Rattle.lookup_slots.specs.Promise.{Hashes, roomIn};
-ghost use Rattle.lookup_slots.specs.Private.{wordAt, Masks, Polys};
+ghost use Rattle.lookup_slots.specs.Private.{wordAt, lastOf, Masks, Polys};
 
 // The slots that an index uses, or that fewer are lent.
 pub enum Room {
@@ -70,8 +70,33 @@ fn poly(x: usize) -> usize
     fours % 4294967296 * 1185921 + fours / 4294967296
 }
 
-// The hash of the bytes after those whose hash is `start`, eight bytes at a time. The word comes round the loop, so that its load stays
-// whole.
+// 33 to the power of how many bytes are left, modulo 2^32.
+fn power(r: usize) -> usize
+    requires { ⌜ (0 < r) × (r < 8) ⌝ }
+    ensures { λ q. ⌜ q ≡ (33 ^ r) % 4294967296 ⌝ }
+{
+    match r {
+        1 => 33,
+        2 => 1089,
+        3 => 35937,
+        4 => 1185921,
+        5 => 39135393,
+        6 => 1291467969,
+        _ => 3963737313,
+    }
+}
+
+// The last bytes of a text, so many, as a number: the last eight, those before made 0.
+fn last_word(s: &[u8], r: usize) -> usize
+    requires { ⌜ (0 < r) × (r < 8) × (8 ≤ length (now s)) ⌝ }
+    ensures { λ q. ⌜ q ≡ wordAt (lastOf (now (s .entry)) r) 0 ⌝ }
+{
+    let cut = 64 - 8 * r;
+    (word(s, s.len() - 8) >> cut) << cut
+}
+
+// The hash of the bytes after those whose hash is `start`, eight bytes at a time and the rest at once, for a loop over it would be
+// mispredicted. The word comes round the loop, so that its load stays whole.
 pub fn hash_from(start: usize, s: &[u8]) -> usize
     requires { ⌜ start < 4294967296 ⌝ }
     ensures { λ r. ⌜ Hashes start (now (s .entry)) r ⌝ }
@@ -90,7 +115,11 @@ pub fn hash_from(start: usize, s: &[u8]) -> usize
     }
     h = ((h * 1954312449) % 4294967296 + poly(x)) % 4294967296;
     i += 8;
-    hash_bytes(h, &s[i..])
+    let r = n - i;
+    if r == 0 {
+        return h;
+    }
+    ((h * power(r)) % 4294967296 + poly(last_word(s, r))) % 4294967296
 }
 
 // The smallest power of two that is at least twice a count.

@@ -1,8 +1,9 @@
--- Eight bytes at a time, and the rest byte after byte. Assumes nothing.
+-- Eight bytes at a time, and the rest at once. Assumes nothing.
 use Prim.Native.Nat.{_-_}
 use lib.ListN.{length}
 use native.Mathlib.Omega.{arith}
-use Rattle.lookup_slots.proofs.Raw.{Worded, worded-first, worded-more, worded-last}
+use Rattle.lookup_slots.proofs.Raw.{Worded, worded-first, worded-more, worded-end}
+use Rattle.lookup_slots.proofs.Rest.{power-fits, worded-last}
 use borrow.Author.Needs.{needs}
 use Rattle.lookup_slots.proofs.hash_from.Statement.{statement}
 use Rattle.lookup_slots.proofs.hash_from.Tie as tie
@@ -61,20 +62,29 @@ add-h-2 c = search needs
 add-i-2 : tie.Need-add-i-2 Inv-loop μ-loop
 add-i-2 c = search needs
 
-sub-hash-bytes : tie.Need-sub-hash-bytes Inv-loop μ-loop
-sub-hash-bytes c = search needs
-
-part-hash-bytes-start : tie.Need-part-hash-bytes-start Inv-loop μ-loop
-part-hash-bytes-start c = search needs
-
-part-hash-bytes-end : tie.Need-part-hash-bytes-end Inv-loop μ-loop
-part-hash-bytes-end c = search needs
-
-hash-bytes-requires-2 : tie.Need-hash-bytes-requires-2 Inv-loop μ-loop
-hash-bytes-requires-2 c κs = search needs
+sub-r : tie.Need-sub-r Inv-loop μ-loop
+sub-r c = search needs
 
 returns-2 : tie.Need-returns-2 Inv-loop μ-loop
-returns-2 c = worded-last (c .before .before .before .before .before .before .before .before .args .start) (c .before .before .before .before .before .before .before .before .args .s .now) (λ j. c .before .before .before .before .before .before .before .shared-slice-known .given j .fits) (c .before .before .before .before .loop .inv) (c .before .before .poly2 .ensures) (c .hash-bytes2 .ensures)
+returns-2 c = worded-end (c .before .before .before .before .before .before .before .args .start) (c .before .before .before .before .before .before .before .args .s .now) (λ j. c .before .before .before .before .before .before .shared-slice-known .given j .fits) (c .before .before .before .loop .inv) (c .before .poly2 .ensures) (c .if2 .taken)
+
+power-requires : tie.Need-power-requires Inv-loop μ-loop
+power-requires c κs = search needs
+
+mul-result : tie.Need-mul-result Inv-loop μ-loop
+mul-result c = record { fits = power-fits (omega arith) (omega arith) }
+
+last-word-requires : tie.Need-last-word-requires Inv-loop μ-loop
+last-word-requires c κs = search needs
+
+poly-requires-3 : tie.Need-poly-requires-3 Inv-loop μ-loop
+poly-requires-3 c κs = search needs
+
+add-result : tie.Need-add-result Inv-loop μ-loop
+add-result c = search needs
+
+returns-3 : tie.Need-returns-3 Inv-loop μ-loop
+returns-3 c = worded-last (c .before .before .before .before .before .before .before .before .before .before .args .start) (c .before .before .before .before .before .before .before .before .before .before .args .s .now) (λ j. c .before .before .before .before .before .before .before .before .before .shared-slice-known .given j .fits) (c .before .before .before .before .before .before .loop .inv) (c .before .before .before .before .poly2 .ensures) (omega arith) (c .before .before .power .ensures) (c .before .last-word .ensures) (c .poly3 .ensures)
 
 pub hash-from-spec : {M : Type 1} → statement M
 hash-from-spec =
@@ -98,8 +108,11 @@ hash-from-spec =
     poly-requires-2
     add-h-2
     add-i-2
-    sub-hash-bytes
-    part-hash-bytes-start
-    part-hash-bytes-end
-    hash-bytes-requires-2
-    returns-2)
+    sub-r
+    returns-2
+    power-requires
+    mul-result
+    last-word-requires
+    poly-requires-3
+    add-result
+    returns-3)
