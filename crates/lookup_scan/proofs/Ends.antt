@@ -12,16 +12,14 @@ use lib.Seq.{length-take-le}
 use lib.Dec.{leb, eqb}
 use borrow.Author.Tests.{eq-eqb, ne-eqb, eqb-true, eqb-false, leb-true}
 use Rattle.text.specs.Bytes.{within, all, front, place, same}
-use Rattle.text.proofs.Tests.{never, by-test, and-left, and-right}
+use Rattle.text.proofs.Tests.{by-test, and-left, and-right}
 use Rattle.text.proofs.Front.{front-in, front-out, front-length}
 use Rattle.text.proofs.Walk.{rest-at}
 use Rattle.text.proofs.Same.{same-true, same-refl}
 use Rattle.container_layout.specs.Mo.{idEnd}
 use Rattle.container_layout.proofs.Marks.{without, with-context}
 use Rattle.lookup_scan.specs.Keys.{keyOf}
-use Rattle.lookup_scan.specs.Private.{Ending, hasFrom, hasKey, IdIn}
-use Rattle.lookup_scan.specs.declared.Id.{Id}
-use Rattle.lookup_scan.specs.declared.Id.the-variants.{From, Nowhere}
+use Rattle.lookup_scan.specs.Private.{Ending, hasFrom, hasKey, InContext}
 
 -- a byte below 5 is none of those from 5 on
 other : (x b : ℕ) → x < 5 → within (5, 0xFF) b ≡ true → not (eqb b x) ≡ true
@@ -92,18 +90,6 @@ without-one o i rest {n} {r} e g u k =
         let q = with-context o {four = place 4 o} {end = place 4 o + 1 + place 0 (drop (place 4 o + 1) o)} refl l refl .end in
         omega (arith, q, four, k, y)
 
--- by whether a context is given
-module _ (o c i rest : List ℕ) {n : ℕ} where
-  alone : (given : Bool) {k : ℕ} → given ≡ false → n ≡ length (keyOf given c i) → o ≡ keyOf given c i ++ 0 ∷ rest → all (within (5, 0xFF)) i ≡ true
-      → k ≡ n + 1 + place 4 (drop (n + 1) o) → eqb k (length o) ≡ eqb (idEnd o) n
-  alone true f e g u k = absurd (never (sym f))
-  alone false f e g u k = without-one o i rest e g u k
-
-  after : (given : Bool) → given ≡ true → n ≡ length (keyOf given c i) → o ≡ keyOf given c i ++ 0 ∷ rest → all (within (5, 0xFF)) i ≡ true
-      → all (within (5, 0xFF)) c ≡ true → true ≡ eqb (idEnd o) n
-  after true f e g u v = sym (eq-eqb (idEnd o) n (with-one o c i rest e g u v))
-  after false f e g u v = absurd (never f)
-
 -- an original begins with the key and a NUL
 module _ (o : List ℕ) (n : ℕ) (key : List ℕ) where
   begun : Ending o n key → same key (take n o) ≡ true → o ≡ key ++ 0 ∷ drop (n + 1) o
@@ -139,39 +125,49 @@ module _ (o : List ℕ) (n : ℕ) where
   unfolding hasFrom
   by-end from i e f g = rw (← e, f, g)
 
-  module _ (c i : List ℕ) (given : Bool) (g : Ending o n (keyOf given c i)) where
-    pub no-id : {x : Id} → IdIn given c (take n o) x → x ≡ Nowhere → false ≡ hasKey o n (keyOf given c i)
+  -- where its bytes are the key's, by where its id ends
+  ended : (key : List ℕ) {b : Bool} → same key (take n o) ≡ true → b ≡ eqb (idEnd o) n → b ≡ hasKey o n key
+  unfolding hasKey
+  ended key e d = rw e d
+
+  -- without a context
+  module _ (c i : List ℕ) (given : Bool) (z : given ≡ false) where
+    own : keyOf given c i ≡ i
+    own = rw z
+
+    pub any-alone : {r : Bool} → r ≡ hasFrom o n 0 i → r ≡ hasKey o n (keyOf given c i)
+    unfolding hasFrom hasKey
+    any-alone f = let e : n - 0 ≡ n = omega arith in f ∙ rw (own, e)
+
+    pub plain-alone : {k : ℕ} {r : Bool} → Ending o n (keyOf given c i) → r ≡ (same i (take n o) && all (within (5, 0xFF)) i) → r ≡ true → k ≡ n + 1 + place 4 (drop (n + 1) o)
+        → eqb k (length o) ≡ hasKey o n (keyOf given c i)
+    plain-alone g f h d =
+        let e : same i (take n o) ≡ true = and-left (same i (take n o)) (all (within (5, 0xFF)) i) (sym f ∙ h) in
+        let u : all (within (5, 0xFF)) i ≡ true = and-right (same i (take n o)) (all (within (5, 0xFF)) i) (sym f ∙ h) in
+        let w : Ending o n i = rw own at g in
+        rw own (ended i e (without-one o i (drop (n + 1) o) (w .size) (begun o n i w e) u d))
+
+  -- with one
+  module _ (c i : List ℕ) {x : Bool} (p : InContext c (take n o) x) where
+    pub no-context : x ≡ false → false ≡ hasKey o n (keyOf true c i)
     unfolding hasKey
-    no-id p e = let q : IdIn given c (take n o) Nowhere = rw (← e) p in rw (q .ids i)
+    no-context e = rw (p .no e i)
 
-    module _ {x : Id} {from : ℕ} (p : IdIn given c (take n o) x) (e : x ≡ From from) where
-      here : IdIn given c (take n o) (From from)
-      here = rw (← e) p
+    module _ (e : x ≡ true) (g : Ending o n (keyOf true c i)) where
+      pub after-inside : length c + 1 ≤ n
+      after-inside = omega (arith, p .inside e, length-take-le n o (omega (arith, g .longer)))
 
-      pub from-inside : from ≤ n
-      from-inside = omega (arith, here .ids .0, length-take-le n o (omega (arith, g .longer)))
+      by-id : same (keyOf true c i) (take n o) ≡ same i (take (n - (length c + 1)) (drop (length c + 1) o))
+      by-id = p .is e i ∙ ap (same i) (cut-front o (length c + 1) n after-inside)
 
-      by-id : same (keyOf given c i) (take n o) ≡ same i (take (n - from) (drop from o))
-      by-id = here .ids .1 i ∙ ap (same i) (cut-front o from n from-inside)
-
-      pub any-key : {r : Bool} → r ≡ hasFrom o n from i → r ≡ hasKey o n (keyOf given c i)
+      pub any-context : {r : Bool} → r ≡ hasFrom o n (length c + 1) i → r ≡ hasKey o n (keyOf true c i)
       unfolding hasFrom hasKey
-      any-key f = f ∙ ap (λ (b : Bool). b && eqb (idEnd o) n) (sym by-id)
+      any-context f = f ∙ ap (λ (b : Bool). b && eqb (idEnd o) n) (sym by-id)
 
-      -- an id without marks of its own
-      module _ {r : Bool} (f : r ≡ (same i (take (n - from) (drop from o)) && all (within (5, 0xFF)) i)) (h : r ≡ true) where
-        bytes : same (keyOf given c i) (take n o) ≡ true
-        bytes = by-id ∙ and-left (same i (take (n - from) (drop from o))) (all (within (5, 0xFF)) i) (sym f ∙ h)
-
-        plain : all (within (5, 0xFF)) i ≡ true
-        plain = and-right (same i (take (n - from) (drop from o))) (all (within (5, 0xFF)) i) (sym f ∙ h)
-
-        ended : {b : Bool} → b ≡ eqb (idEnd o) n → b ≡ hasKey o n (keyOf given c i)
-        unfolding hasKey
-        ended d = rw bytes d
-
-        pub plain-alone : {k : ℕ} → given ≡ false → k ≡ n + 1 + place 4 (drop (n + 1) o) → eqb k (length o) ≡ hasKey o n (keyOf given c i)
-        plain-alone z d = ended (alone o c i (drop (n + 1) o) given z (g .size) (begun o n (keyOf given c i) g bytes) plain d)
-
-        pub plain-context : {b : Bool} → given ≡ true → b ≡ all (within (5, 0xFF)) c → b ≡ true → true ≡ hasKey o n (keyOf given c i)
-        plain-context z d t = ended (after o c i (drop (n + 1) o) given z (g .size) (begun o n (keyOf given c i) g bytes) plain (sym d ∙ t))
+      pub plain-context : {b r : Bool} → r ≡ (same i (take (n - (length c + 1)) (drop (length c + 1) o)) && all (within (5, 0xFF)) i) → r ≡ true
+          → b ≡ all (within (5, 0xFF)) c → b ≡ true → true ≡ hasKey o n (keyOf true c i)
+      plain-context f h d t =
+          let s = same i (take (n - (length c + 1)) (drop (length c + 1) o)) in
+          let k : same (keyOf true c i) (take n o) ≡ true = by-id ∙ and-left s (all (within (5, 0xFF)) i) (sym f ∙ h) in
+          let u : all (within (5, 0xFF)) i ≡ true = and-right s (all (within (5, 0xFF)) i) (sym f ∙ h) in
+          ended (keyOf true c i) k (sym (eq-eqb (idEnd o) n (with-one o c i (drop (n + 1) o) (g .size) (begun o n (keyOf true c i) g k) u (sym d ∙ t))))

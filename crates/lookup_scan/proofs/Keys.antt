@@ -13,8 +13,7 @@ use Rattle.text.proofs.Tests.{never, and-none, and-assoc}
 use Rattle.text.proofs.Same.{other-length}
 use Rattle.lookup_scan.specs.Keys.{keyOf}
 use Rattle.lookup_scan.specs.Promise.{Sized}
-use Rattle.lookup_scan.specs.Private.{IdIn}
-use Rattle.lookup_scan.specs.declared.Id.the-variants.{From, Nowhere}
+use Rattle.lookup_scan.specs.Private.{InContext}
 use Rattle.lookup_scan.specs.declared.Size.{Size}
 use Rattle.lookup_scan.specs.declared.Size.the-variants.{Is, TooLong}
 
@@ -29,30 +28,22 @@ same-split (x ∷ c) i (b ∷ key) h =
     ∙ sym (and-assoc (eqb x b) (same c (take (length c) key)) (eqb 4 (getD key (length c) 0) && same i (drop (length c + 1) key)))
     ∙ rw (add-one, add-one)
 
--- where the id stands in a key
+-- whether a key begins with a context and byte 4
 module _ (c key : List ℕ) where
-  pub id-alone : (given : Bool) → given ≡ false → IdIn given c key (From 0)
-  id-alone true e = absurd (never (sym e))
-  id-alone false e = record { ids = (omega arith, λ i. refl) }
+  out-of : ((i : List ℕ) → same (keyOf true c i) key ≡ false) → InContext c key false
+  out-of h = record { inside = λ e. absurd (never e); is = λ e. absurd (never e); no = λ e. h }
 
-  module _ (given : Bool) (z : given ≡ true) where
-    none : ((i : List ℕ) → same (keyOf true c i) key ≡ false) → IdIn given c key Nowhere
-    none h = rw z (record { ids = h })
+  pub too-short : length key ≤ length c → InContext c key false
+  too-short h = out-of (λ i. other-length (keyOf true c i) key (λ e. omega (arith, length-append c (4 ∷ i))))
 
-    pub id-short : length key ≤ length c → IdIn given c key Nowhere
-    id-short h = none (λ i. other-length (keyOf true c i) key (λ e. omega (arith, length-append c (4 ∷ i))))
+  module _ (h : length c < length key) where
+    pub not-four : (getD key (length c) 0 ≡ 4 → ⊥) → InContext c key false
+    not-four e =
+        let f : eqb 4 (getD key (length c) 0) ≡ false = ne-eqb 4 (getD key (length c) 0) (λ q. e (sym q)) in
+        out-of (λ i. same-split c i key h ∙ rw f (and-none (same c (take (length c) key))))
 
-    module _ (h : length c < length key) where
-      pub id-not-four : (getD key (length c) 0 ≡ 4 → ⊥) → IdIn given c key Nowhere
-      id-not-four e =
-          let f : eqb 4 (getD key (length c) 0) ≡ false = ne-eqb 4 (getD key (length c) 0) (λ q. e (sym q)) in
-          none (λ i. same-split c i key h ∙ rw f (and-none (same c (take (length c) key))))
-
-      pub id-other : {r : Bool} → r ≡ same c (take (length c) key) → r ≡ false → IdIn given c key Nowhere
-      id-other e f = none (λ i. same-split c i key h ∙ rw (← e, f))
-
-      pub id-after : {r : Bool} → getD key (length c) 0 ≡ 4 → r ≡ same c (take (length c) key) → r ≡ true → IdIn given c key (From (length c + 1))
-      id-after f e g = rw z (record { ids = (omega arith, λ i. same-split c i key h ∙ rw (← e, g, f)) })
+    pub by-context : {r : Bool} → getD key (length c) 0 ≡ 4 → r ≡ same c (take (length c) key) → InContext c key r
+    by-context f e = record { inside = λ g. h; is = λ g i. same-split c i key h ∙ rw (← e, g, f); no = λ g i. same-split c i key h ∙ rw (← e, g) }
 
 -- the length of a key, in a file of that size
 module _ (size : ℕ) (c i : List ℕ) where

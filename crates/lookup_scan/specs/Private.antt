@@ -1,7 +1,7 @@
 -- What the functions behind the public ones promise.
 use Prim.Native.Nat.{ℕ, _+_, _-_, _<_, _≤_}
 use mathlib.Core.Path.{_≡_}
-use mathlib.Core.Bool.{Bool, false, _&&_}
+use mathlib.Core.Bool.{Bool, true, false, _&&_}
 use mathlib.Core.List.{List}
 use lib.ListN.{length, getD, take, drop}
 use lib.Dec.{eqb}
@@ -10,8 +10,6 @@ use Rattle.lookup_scan.specs.Keys.{keyOf, isKey}
 use Rattle.container_layout.specs.Mo.{hasCell, string, entry, idEnd}
 use Rattle.text.specs.declared.Stretch.the-variants as stretch
 use Rattle.container_layout.specs.declared.Tables.{Tables}
-use Rattle.lookup_scan.specs.declared.Id.{Id}
-use Rattle.lookup_scan.specs.declared.Id.the-variants.{From, Nowhere}
 
 -- entry i may have a key of n bytes; where it may not, it has none of that length
 pub record MayBe (s : List ℕ) (t : Tables) (i n : ℕ) (r : Bool) : Type 0 where
@@ -42,10 +40,8 @@ hasFrom o n from id = same id (take (n - from) (drop from o)) && eqb (idEnd o) n
 unfoldable pub hasKey : List ℕ → ℕ → List ℕ → Bool
 hasKey o n key = same key (take n o) && eqb (idEnd o) n
 
--- of the keys with this context those are the same whose ids are, or none
-abbrev pub Ids : Bool → List ℕ → List ℕ → Id → Type 0
-Ids given c key (From from) = (from ≤ length key) × ((i : List ℕ) → same (keyOf given c i) key ≡ same i (drop from key))
-Ids given c key Nowhere = (i : List ℕ) → same (keyOf given c i) key ≡ false
-
-pub record IdIn (given : Bool) (c key : List ℕ) (r : Id) : Type 0 where
-  pub ids : Ids given c key r
+-- of the keys with this context those are the same whose ids are the rest, or none
+pub record InContext (c key : List ℕ) (r : Bool) : Type 0 where
+  pub inside : r ≡ true → length c < length key
+  pub is : r ≡ true → (i : List ℕ) → same (keyOf true c i) key ≡ same i (drop (length c + 1) key)
+  pub no : r ≡ false → (i : List ℕ) → same (keyOf true c i) key ≡ false

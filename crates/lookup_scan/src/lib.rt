@@ -4,11 +4,12 @@ use container_layout::Tables;
 use container_layout::wide;
 use text::Stretch;
 ghost use mathlib.Core.Path.{_≡_};
+ghost use mathlib.Core.Bool.{true};
 ghost use Prim.Native.Nat.{_+_, _≤_};
 ghost use lib.ListN.{length};
 ghost use Rattle.lookup_scan.specs.Keys.{keyOf, lastWith};
 ghost use Rattle.lookup_scan.specs.Promise.{Sized, hitIf};
-ghost use Rattle.lookup_scan.specs.Private.{IdIn, MayBe, ScanFrom, Ending, hasFrom, hasKey, Starts};
+ghost use Rattle.lookup_scan.specs.Private.{InContext, MayBe, ScanFrom, Ending, hasFrom, hasKey, Starts};
 
 // The entry with a key, and where its translation lies.
 pub enum Hit {
@@ -38,29 +39,18 @@ pub fn size_of(size: usize, given: bool, context: &[u8], id: &[u8]) -> Size
     Size::Is(context.len() + 1 + id.len())
 }
 
-// Where the id stands in a key: after context and byte 4, or where no context is given at the beginning.
-enum Id {
-    From(usize),
-    Nowhere,
-}
-
-fn id_in(key: &[u8], given: bool, context: &[u8]) -> Id
-    ensures { λ r. ⌜ IdIn given (now (context .entry)) (now (key .entry)) r ⌝ }
+// Whether a key begins with a context and byte 4.
+fn in_context(key: &[u8], context: &[u8]) -> bool
+    ensures { λ r. ⌜ InContext (now (context .entry)) (now (key .entry)) r ⌝ }
 {
-    if !given {
-        return Id::From(0);
-    }
     let n = context.len();
     if key.len() <= n {
-        return Id::Nowhere;
+        return false;
     }
     if key[n] != 4 {
-        return Id::Nowhere;
+        return false;
     }
-    if !text::equal(&key[..n], context) {
-        return Id::Nowhere;
-    }
-    Id::From(n + 1)
+    text::equal(&key[..n], context)
 }
 
 // Whether entry i may have a key of n bytes: its original is long enough, and a NUL stands after so many. Most entries end here.
@@ -90,25 +80,37 @@ fn has_any_key(o: &[u8], n: usize, from: usize, id: &[u8]) -> bool
     parts.end == n
 }
 
-// Whether an original has the key of n bytes, where a NUL stands after so many. A key without bytes below 5 has no mark in it but the byte 4 after
-// a context, so that only a byte 4 further on could tell otherwise, and with a context none; such an id is told in the one pass that compares it.
-fn has_key(o: &[u8], n: usize, given: bool, context: &[u8], id: &[u8]) -> bool
-    requires { ⌜ Ending (now o) n (keyOf given (now context) (now id)) ⌝ }
-    ensures { λ r. ⌜ r ≡ hasKey (now (o .entry)) n (keyOf given (now (context .entry)) (now (id .entry))) ⌝ }
+// Whether an original has the key of n bytes, which has a context. Where neither context nor id has a byte below 5, the byte 4 between them is the
+// only mark, and the id ends at the NUL after it.
+fn has_in_context(o: &[u8], n: usize, context: &[u8], id: &[u8]) -> bool
+    requires { ⌜ Ending (now o) n (keyOf true (now context) (now id)) ⌝ }
+    ensures { λ r. ⌜ r ≡ hasKey (now (o .entry)) n (keyOf true (now (context .entry)) (now (id .entry))) ⌝ }
 {
-    let place = id_in(&o[..n], given, context);
-    let Id::From(from) = place else {
+    if !in_context(&o[..n], context) {
         return false;
-    };
+    }
+    let from = context.len() + 1;
     if text::same_from(&o[from..n], id, 5) {
-        if !given {
-            return text::find_byte_from(o, n + 1, 4) == o.len();
-        }
         if text::all_within(context, 5, 0xFF) {
             return true;
         }
     }
     has_any_key(o, n, from, id)
+}
+
+// Whether an original has the key of n bytes, where a NUL stands after so many. An id without a byte below 5, which is told in the pass that compares
+// it, has no mark, so that only a byte 4 further on could tell that its own end is not here.
+fn has_key(o: &[u8], n: usize, given: bool, context: &[u8], id: &[u8]) -> bool
+    requires { ⌜ Ending (now o) n (keyOf given (now context) (now id)) ⌝ }
+    ensures { λ r. ⌜ r ≡ hasKey (now (o .entry)) n (keyOf given (now (context .entry)) (now (id .entry))) ⌝ }
+{
+    if given {
+        return has_in_context(o, n, context, id);
+    }
+    if text::same_from(&o[..n], id, 5) {
+        return text::find_byte_from(o, n + 1, 4) == o.len();
+    }
+    has_any_key(o, n, 0, id)
 }
 
 // Entry i, where it has the key of n bytes: its original is at a place, and after n bytes has a NUL.
