@@ -213,7 +213,9 @@ pub fn header_of(file: &[u8]) -> Option<&str> {
         return None;
     }
     let key = key(file, big, 0)?;
-    if !key.is_empty() && !key.ends_with(&[4]) {
+    // the context ends at the first byte 4; an id may be a byte 4 itself
+    let id = key.iter().position(|&b| b == 4).map_or(key, |at| &key[at + 1..]);
+    if !id.is_empty() {
         return None;
     }
     let translation = string(file, big, word_in(file, big, 16)?, 0, 0)?;
