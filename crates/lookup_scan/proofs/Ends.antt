@@ -8,7 +8,7 @@ use native.Mathlib.Omega.{arith}
 use native.Mathlib.Nat.{eq-or-lt-of-le}
 use native.Mathlib.Numerals.{add-one}
 use lib.ListN.{length, getD, take, drop, length-append, take-append-drop}
-use lib.Seq.{length-take-le}
+use lib.Seq.{length-take-le, getD-take}
 use lib.Dec.{leb, eqb}
 use borrow.Author.Tests.{eq-eqb, ne-eqb, eqb-true, eqb-false, leb-true}
 use Rattle.text.specs.Bytes.{within, all, front, place, same}
@@ -134,6 +134,17 @@ module _ (o : List ℕ) (n : ℕ) where
   module _ (c i : List ℕ) (given : Bool) (z : given ≡ false) where
     own : keyOf given c i ≡ i
     own = rw z
+
+    pub own-length : Ending o n (keyOf given c i) → n ≡ length i
+    own-length g = g .size ∙ ap length own
+
+    pub other-first : 0 < n → (getD o 0 0 ≡ getD i 0 0 → ⊥) → false ≡ hasKey o n (keyOf given c i)
+    unfolding hasKey
+    other-first l h =
+        let e : same i (take n o) ≡ false =
+        by-test (same i (take n o) ≡ false) (same i (take n o)) (λ f. absurd (h (sym (ap (λ (s : List ℕ). getD s 0 0) (same-true i (take n o) f) ∙ getD-take n o 0 0 l)))) (λ f. f)
+        in
+        rw (own, e)
 
     pub any-alone : {r : Bool} → r ≡ hasFrom o n 0 i → r ≡ hasKey o n (keyOf given c i)
     unfolding hasFrom hasKey

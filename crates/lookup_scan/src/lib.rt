@@ -107,6 +107,12 @@ fn has_key(o: &[u8], n: usize, given: bool, context: &[u8], id: &[u8]) -> bool
     if given {
         return has_in_context(o, n, context, id);
     }
+    // most others of that length differ here, and a scan meets many
+    if 0 < n {
+        if o[0] != id[0] {
+            return false;
+        }
+    }
     if text::same_from(&o[..n], id, 5) {
         return text::find_byte_from(o, n + 1, 4) == o.len();
     }
