@@ -73,11 +73,7 @@ pub fn string_at(file: &[u8], big: bool, table: u32, i: usize) -> Stretch
     if file.len() < start {
         return Stretch::Absent;
     }
-    let left = file.len() - start;
-    if left < 8 {
-        return Stretch::Absent;
-    }
-    if (left - 8) / 8 < i {
+    if (file.len() - start) / 8 <= i {
         return Stretch::Absent;
     }
     cell_at(file, start + 8 * i, big)

@@ -1,4 +1,4 @@
--- The cell lies in the file exactly if the three tests say so. Assumes nothing.
+-- The cell lies in the file exactly if the two tests say so. Assumes nothing.
 use Rattle.container_layout.proofs.Cells.{no-cell, has-cell}
 use mathlib.Core.Path.{_∙_}
 use native.Mathlib.Omega.{arith}
@@ -15,14 +15,11 @@ wide-requires c κs = search needs
 returns : tie.Need-returns
 returns c = no-cell _ _ _ _ (omega arith)
 
-sub-left : tie.Need-sub-left
-sub-left c = search needs
+sub-if2 : tie.Need-sub-if2
+sub-if2 c = search needs
 
 returns-2 : tie.Need-returns-2
 returns-2 c = no-cell _ _ _ _ (omega arith)
-
-returns-3 : tie.Need-returns-3
-returns-3 c = no-cell _ _ _ _ (omega arith)
 
 mul-cell-at : tie.Need-mul-cell-at
 mul-cell-at c = search needs
@@ -33,8 +30,8 @@ add-cell-at c = search needs
 cell-at-requires : tie.Need-cell-at-requires
 cell-at-requires c κs = search needs
 
-returns-4 : tie.Need-returns-4
-returns-4 c = c .cell-at .ensures ∙ has-cell _ _ _ _ (c .before .before .before .before .wide .ensures .0) (omega arith)
+returns-3 : tie.Need-returns-3
+returns-3 c = c .cell-at .ensures ∙ has-cell _ _ _ _ (c .before .before .before .wide .ensures .0) (omega arith)
 
 pub string-at-spec : {M : Type 1} → statement M
 string-at-spec =
@@ -42,10 +39,9 @@ string-at-spec =
     (tie.spec
     wide-requires
     returns
-    sub-left
+    sub-if2
     returns-2
-    returns-3
     mul-cell-at
     add-cell-at
     cell-at-requires
-    returns-4)
+    returns-3)
