@@ -1,15 +1,16 @@
 -- What an entry is made of, and what an entry with a key is like. Assumes nothing.
-use Prim.Native.Nat.{ℕ, _+_, _<_, _≤_}
-use mathlib.Core.Path.{_≡_, refl, sym, ap, _∙_}
-use mathlib.Core.Bool.{Bool, true, false}
+use Prim.Native.Nat.{ℕ, _+_, _-_, _<_, _≤_}
+use mathlib.Core.Path.{_≡_, refl, sym, ap, ap₂, _∙_}
+use mathlib.Core.Bool.{Bool, true, false, _&&_}
 use mathlib.Core.List.{List}
 use native.Mathlib.Omega.{arith}
 use lib.ListN.{length, getD, take, drop, length-drop}
 use lib.Seq.{getD-take, getD-drop, length-take-le}
-use lib.Dec.{eqb}
-use borrow.Author.Tests.{ltb-true, eqb-false}
+use lib.Bits.{bitOr, or-add-and, and-le-l, and-le-r}
+use lib.Dec.{eqb, leb}
+use borrow.Author.Tests.{ltb-true, le-leb, leb-true, leb-false, eq-eqb, ne-eqb, eqb-true}
 use Rattle.text.specs.Bytes.{place, same}
-use Rattle.text.proofs.Tests.{never, taken, left, by-test}
+use Rattle.text.proofs.Tests.{never, taken, left, by-test, and-left, and-right}
 use Rattle.text.proofs.Placed.{place-stands}
 use Rattle.text.proofs.Same.{same-true, same-refl}
 use Rattle.container_layout.specs.Mo as Mo
@@ -22,7 +23,7 @@ use Rattle.text.specs.declared.Stretch.the-variants as stretch
 use Rattle.container_layout.proofs.Cells.{string-told}
 use Rattle.container_layout.proofs.Entries.{original-length}
 use Rattle.lookup_scan.specs.Keys.{isKey}
-use Rattle.lookup_scan.specs.Private.{MayBe}
+use Rattle.lookup_scan.specs.Private.{MayBe, Lesser, endsAfter, Starts}
 
 -- an original whose id ends has a NUL there
 id-nul : (o : List ℕ) → ended o ≡ true → getD o (idEnd o) 0 ≡ 0
@@ -123,6 +124,17 @@ module _ (s : List ℕ) (t : Tables) (key : List ℕ) (i : ℕ) where
   pub no-string : string (t .big) s (t .originals) i ≡ stretch.Absent → isKey s key (entry s t i) ≡ false
   no-string e = is-false _ (λ f. let q = made s t i (keyed-told f .has .entry) .original in let z : _≡_ {A = ℕ} 0 1 = cc in omega arith)
 
+-- the end of a string, told by what is lacking and the byte there at once
+or-none : (a b : ℕ) → bitOr a b ≡ 0 → (a ≡ 0) × (b ≡ 0)
+or-none a b e = (omega (arith, or-add-and a b, and-le-r a b), omega (arith, or-add-and a b, and-le-l a b))
+
+module _ (s : List ℕ) (a l n : ℕ) where
+  pub ends-at-once : {m b : ℕ} → Lesser n l m → b ≡ getD s (a + m) 0 → eqb (bitOr (n - m) b) 0 ≡ endsAfter s a l n
+  ends-at-once {m} {b} w e =
+      by-test (eqb (bitOr (n - m) b) 0 ≡ endsAfter s a l n) (leb n l)
+      (λ t. let z : m ≡ n = w .is (leb-true n l t) in let y : n - m ≡ 0 = omega arith in rw (y, t) (ap (λ (x : ℕ). eqb x 0) (e ∙ ap (λ (x : ℕ). getD s (a + x) 0) z)))
+      (λ t. ne-eqb (bitOr (n - m) b) 0 (λ o. omega (arith, or-none (n - m) b o .0, w .second, leb-false n l t)) ∙ rw t)
+
 -- the quick test of an entry
 module _ (s : List ℕ) (t : Tables) (i n : ℕ) where
   pub may-not-outside : {x : Stretch} → x ≡ string (t .big) s (t .originals) i → x ≡ stretch.Absent → MayBe s t i n false
@@ -132,15 +144,18 @@ module _ (s : List ℕ) (t : Tables) (i n : ℕ) where
     same-original : {c k b m : ℕ} (o : Made s t i c k b m) → (a ≡ c) × (l ≡ o .len)
     same-original o = let q = o .original in (cc, cc)
 
-    pub may-not-short : l < n → MayBe s t i n false
-    may-not-short h = record {
-      no = λ r key z. is-false _ (λ g. let o = made s t i (keyed-told s t key i g .has .entry) in omega (arith, same-original o .1, o .short));
+    pub starts-by-end : {r : Bool} → r ≡ endsAfter s a l n → r ≡ true → Starts s t i a l n
+    starts-by-end q z = record {
+      original = sym e ∙ f;
+      long = leb-true n l (and-left (leb n l) (eqb (getD s (a + n) 0) 0) (sym q ∙ z));
+      nul = eqb-true (getD s (a + n) 0) 0 (and-right (leb n l) (eqb (getD s (a + n) 0) 0) (sym q ∙ z));
     }
 
-    pub may-by-nul : n ≤ l → MayBe s t i n (eqb (getD s (a + n) 0) 0)
-    may-by-nul h = record { no = λ r key z. is-false _ (λ g. ends key z (made s t i (keyed-told s t key i g .has .entry)) r) }
+    pub may-by-end : {r : Bool} → r ≡ endsAfter s a l n → MayBe s t i n r
+    may-by-end q = record { no = λ z key h. is-false _ (λ g. ends key h (made s t i (keyed-told s t key i g .has .entry)) (sym q ∙ z)) }
       where
-        ends : (key : List ℕ) {c b m : ℕ} → length key ≡ n → Made s t i c (length key) b m → eqb (getD s (a + n) 0) 0 ≡ false → ⊥
-        ends key z o r =
-            let w : getD s (a + n) 0 ≡ 0 = rw (same-original o .0, ← z) (o .nul) in
-            eqb-false (getD s (a + n) 0) 0 r w
+        ends : (key : List ℕ) {c b m : ℕ} → length key ≡ n → Made s t i c (length key) b m → endsAfter s a l n ≡ false → ⊥
+        ends key h o z =
+            let k : n ≤ l = omega (arith, same-original o .1, o .short) in
+            let w : getD s (a + n) 0 ≡ 0 = rw (same-original o .0, ← h) (o .nul) in
+            never (sym z ∙ ap₂ (λ (x y : Bool). x && y) (le-leb n l k) (eq-eqb (getD s (a + n) 0) 0 w))

@@ -4,12 +4,21 @@ use mathlib.Core.Path.{_≡_}
 use mathlib.Core.Bool.{Bool, true, false, _&&_}
 use mathlib.Core.List.{List}
 use lib.ListN.{length, getD, take, drop}
-use lib.Dec.{eqb}
+use lib.Dec.{eqb, leb}
 use Rattle.text.specs.Bytes.{same}
 use Rattle.lookup_scan.specs.Keys.{keyOf, isKey}
 use Rattle.container_layout.specs.Mo.{hasCell, string, entry, idEnd}
 use Rattle.text.specs.declared.Stretch.the-variants as stretch
 use Rattle.container_layout.specs.declared.Tables.{Tables}
+
+pub record Lesser (a b r : ℕ) : Type 0 where
+  pub first : r ≤ a
+  pub second : r ≤ b
+  pub is : a ≤ b → r ≡ a
+
+-- a string of so many bytes at a place has at least n, and a NUL after n of them
+abbrev pub endsAfter : List ℕ → ℕ → ℕ → ℕ → Bool
+endsAfter s at len n = leb n len && eqb (getD s (at + n) 0) 0
 
 -- entry i may have a key of n bytes; where it may not, it has none of that length
 pub record MayBe (s : List ℕ) (t : Tables) (i n : ℕ) (r : Bool) : Type 0 where

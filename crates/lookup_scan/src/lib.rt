@@ -5,11 +5,11 @@ use container_layout::wide;
 use text::Stretch;
 ghost use mathlib.Core.Path.{_≡_};
 ghost use mathlib.Core.Bool.{true};
-ghost use Prim.Native.Nat.{_+_, _≤_};
+ghost use Prim.Native.Nat.{_+_, _<_, _≤_};
 ghost use lib.ListN.{length};
 ghost use Rattle.lookup_scan.specs.Keys.{keyOf, lastWith};
 ghost use Rattle.lookup_scan.specs.Promise.{Sized, hitIf};
-ghost use Rattle.lookup_scan.specs.Private.{InContext, MayBe, ScanFrom, Ending, hasFrom, hasKey, Starts};
+ghost use Rattle.lookup_scan.specs.Private.{InContext, Lesser, endsAfter, MayBe, ScanFrom, Ending, hasFrom, hasKey, Starts};
 
 // The entry with a key, and where its translation lies.
 pub enum Hit {
@@ -53,19 +53,38 @@ fn in_context(key: &[u8], context: &[u8]) -> bool
     text::equal(&key[..n], context)
 }
 
+fn lesser(a: usize, b: usize) -> usize
+    ensures { λ r. ⌜ Lesser a b r ⌝ }
+{
+    if a < b { a } else { b }
+}
+
+fn from_byte(b: u8) -> usize
+    ensures { λ r. ⌜ r ≡ b ⌝ }
+{
+    b as usize
+}
+
+// Whether a string has a NUL after n bytes, or at its end. What it lacks to n bytes and the byte there are looked at together: the length alone is less or
+// more for every second entry, so that a test of it would be mispredicted as often.
+fn ends_after(file: &[u8], at: usize, len: usize, n: usize) -> bool
+    requires { ⌜ at + len < length (now file) ⌝ }
+    ensures { λ r. ⌜ r ≡ endsAfter (now (file .entry)) at len n ⌝ }
+{
+    let most = lesser(n, len);
+    let end = at + most;
+    ((n - most) | from_byte(file[end])) == 0
+}
+
 // Whether entry i may have a key of n bytes: its original is long enough, and a NUL stands after so many. Most entries end here.
 fn may_be(file: &[u8], t: Tables, i: usize, n: usize) -> bool
     ensures { λ r. ⌜ MayBe (now (file .entry)) t i n r ⌝ }
 {
     let original = container_layout::string_at(file, t.big, t.originals, i);
-    let Stretch::At(start, len) = original else {
+    let Stretch::At(at, len) = original else {
         return false;
     };
-    if len < n {
-        return false;
-    }
-    let end = start + n;
-    file[end] == 0
+    ends_after(file, at, len, n)
 }
 
 // Whether an original has the key of n bytes whose id stands from a place on, whatever bytes the two have.
@@ -162,11 +181,7 @@ pub fn hit_at(
     let Stretch::At(at, size) = original else {
         return Hit::Missing;
     };
-    if size < n {
-        return Hit::Missing;
-    }
-    let nul = at + n;
-    if file[nul] != 0 {
+    if !ends_after(file, at, size, n) {
         return Hit::Missing;
     }
     found_at(file, t, i, at, size, n, given, context, id)

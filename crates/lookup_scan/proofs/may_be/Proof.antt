@@ -1,7 +1,7 @@
 -- An entry with a key of n bytes has an original at least so long, with a NUL after them. Assumes nothing.
 use Rattle.container_layout.proofs.Cells.{string-told}
 use mathlib.Core.Path.{sym, _∙_}
-use Rattle.lookup_scan.proofs.Entries.{may-not-outside, may-not-short, may-by-nul}
+use Rattle.lookup_scan.proofs.Entries.{may-not-outside, may-by-end}
 use borrow.Author.Needs.{needs}
 use native.Mathlib.Omega.{arith}
 use Rattle.lookup_scan.proofs.may_be.Statement.{statement}
@@ -19,17 +19,11 @@ enum-told c = search needs
 returns : tie.Need-returns
 returns c = may-not-outside _ _ _ _ (c .before .before .string-at .ensures) (c .enum-told .given .1)
 
+ends-after-requires : tie.Need-ends-after-requires
+ends-after-requires c κs = omega (arith, string-told _ _ _ _ (sym (c .before .before .before .string-at .ensures) ∙ c .before .original .given .1))
+
 returns-2 : tie.Need-returns-2
-returns-2 c = may-not-short _ _ _ _ (c .before .before .before .before .string-at .ensures) (c .before .before .original .given .1) (c .if1 .taken)
-
-add-end : tie.Need-add-end
-add-end c = omega (arith, string-told (c .before .before .before .before .before .before .args .t .big) (c .before .before .before .before .before .before .args .file .now) (c .before .before .before .before .before .before .args .t .originals) (c .before .before .before .before .before .before .args .i) (sym (c .before .before .before .before .string-at .ensures) ∙ c .before .before .original .given .1))
-
-shared-slice-read-result : tie.Need-shared-slice-read-result
-shared-slice-read-result c = omega (arith, string-told (c .before .before .before .before .before .before .before .args .t .big) (c .before .before .before .before .before .before .before .args .file .now) (c .before .before .before .before .before .before .before .args .t .originals) (c .before .before .before .before .before .before .before .args .i) (sym (c .before .before .before .before .before .string-at .ensures) ∙ c .before .before .before .original .given .1))
-
-returns-3 : tie.Need-returns-3
-returns-3 c = may-by-nul _ _ _ _ (c .before .before .before .before .before .string-at .ensures) (c .before .before .before .original .given .1) (c .before .if1 .left)
+returns-2 c = may-by-end _ _ _ _ (c .before .before .before .before .string-at .ensures) (c .before .before .original .given .1) (c .ends-after .ensures)
 
 pub may-be-spec : {M : Type 1} → statement M
 may-be-spec =
@@ -39,7 +33,5 @@ may-be-spec =
     enum-known-original
     enum-told
     returns
-    returns-2
-    add-end
-    shared-slice-read-result
-    returns-3)
+    ends-after-requires
+    returns-2)
