@@ -1,23 +1,17 @@
 -- Slots cleared and filled, as the code meets them. Assumes nothing.
-use Prim.Native.Nat.{ℕ, zero, suc, _+_, _-_, _<_, _≤_}
+use Prim.Native.Nat.{ℕ, suc, _+_, _<_, _≤_}
 use mathlib.Core.Path.{_≡_, refl, sym, ap, _∙_}
 use mathlib.Core.List.{List, [], _∷_, _++_, append-assoc, append-nil}
-use mathlib.Core.Option.{Option}
+use mathlib.Core.Option.{Option, some}
 use native.Mathlib.Omega.{arith}
-use native.Mathlib.Nat.{add-sub-cancel-left}
 use native.Mathlib.Numerals.{add-one}
-use lib.ListN.{length, getD, set, take, drop, length-set, length-replicate, replicate-append-replicate, length-drop}
-use lib.Seq.{set-at, set-out, length-take-le}
+use lib.ListN.{length, getD, set, drop, length-set, length-replicate, replicate-append-replicate}
+use lib.Seq.{set-at, set-out}
 use Rattle.text.proofs.Walk.{rest-at, rest-end}
-use Rattle.container_layout.specs.Mo.{entry}
 use Rattle.container_layout.specs.declared.Tables.{Tables}
-use Rattle.container_layout.specs.declared.Entry.{Entry}
-use Rattle.container_layout.specs.declared.Entry.the-variants as entries
-use Rattle.lookup_scan.proofs.Entries as entry-laws
 use Rattle.lookup_slots.specs.Slots.{place, insert, zeros, built}
 use Rattle.lookup_slots.proofs.Built.{insert-length}
-use Rattle.lookup_index.specs.Index.{keyIn, keyAt}
-use Rattle.lookup_index.proofs.Answers.{key-below}
+use Rattle.lookup_index.specs.Index.{keyAt}
 
 -- the first i slots are cleared
 pub record Cleared (before now : List ℕ) (i : ℕ) : Type 0 where
@@ -47,31 +41,17 @@ module _ (b : List ℕ) where
       let z : i ≡ length b = omega (arith, w .long, w .upto) in
       w .is ∙ rw (rest-end b i (omega arith), append-nil) (ap zeros z)
 
--- entry i goes in
-module _ (s : List ℕ) (t : Tables) (i : ℕ) (l : i < t .count) {x : Entry} (e : x ≡ entry s t i) (slots : List ℕ) where
-  key-is : (o : Entry) → x ≡ o → keyAt s t i ≡ keyIn s o
-  key-is o f = key-below s t i l ∙ ap (keyIn s) (sym e ∙ f)
+-- entry i goes in, by its key
+module _ (s : List ℕ) (t : Tables) (i : ℕ) (slots : List ℕ) where
+  pub put-key : {o : Option (List ℕ)} → keyAt s t i ≡ o → insert (keyAt s t) i o slots ≡ insert (keyAt s t) i (keyAt s t i) slots
+  put-key e = ap (λ (o : Option (List ℕ)). insert (keyAt s t) i o slots) (sym e)
 
-  pub put-none : x ≡ entries.NoEntry → slots ≡ insert (keyAt s t) i (keyAt s t i) slots
-  put-none f = sym (ap (λ (o : Option (List ℕ)). insert (keyAt s t) i o slots) (key-is entries.NoEntry f))
+  module _ {key : List ℕ} {p : ℕ} (e : keyAt s t i ≡ some key) (g : p ≡ place (keyAt s t) key slots) where
+    pub put-at : {v : ℕ} → v ≡ i + 1 → set slots p v ≡ insert (keyAt s t) i (keyAt s t i) slots
+    put-at {v} h = let z : v ≡ suc i = h ∙ add-one i in rw (g, z) (put-key e)
 
-  module _ {a n b m : ℕ} (f : x ≡ entries.At a n b m) where
-    pub key-inside : a + n < length s
-    key-inside = entry-laws.key-inside s t i (sym e ∙ f)
-
-    pub key-length : n ≡ length (take (a + n - a) (drop a s))
-    key-length = sym (ap (λ (z : ℕ). length (take z (drop a s))) (add-sub-cancel-left a n) ∙ length-take-le n (drop a s) (omega (arith, length-drop a s, key-inside)))
-
-    module _ {p : ℕ} (g : p ≡ place (keyAt s t) (take (a + n - a) (drop a s)) slots) where
-      pub put-at : {v : ℕ} → v ≡ i + 1 → set slots p v ≡ insert (keyAt s t) i (keyAt s t i) slots
-      put-at {v} h =
-          let z : v ≡ suc i = h ∙ add-one i in
-          let y : p ≡ place (keyAt s t) (take n (drop a s)) slots = g ∙ ap (λ (z : ℕ). place (keyAt s t) (take z (drop a s)) slots) (add-sub-cancel-left a n) in
-          ap (λ (q : ℕ). set slots q v) y ∙ ap (λ (u : ℕ). set slots (place (keyAt s t) (take n (drop a s)) slots) u) z
-          ∙ sym (ap (λ (o : Option (List ℕ)). insert (keyAt s t) i o slots) (key-is (entries.At a n b m) f))
-
-      pub put-full : length slots ≤ p → slots ≡ insert (keyAt s t) i (keyAt s t i) slots
-      put-full h = sym (set-out slots p (i + 1) h) ∙ put-at refl
+    pub put-full : length slots ≤ p → slots ≡ insert (keyAt s t) i (keyAt s t i) slots
+    put-full h = sym (set-out slots p (i + 1) h) ∙ put-at refl
 
 -- the first i entries went in
 pub record Filled (s : List ℕ) (t : Tables) (m : ℕ) (now : List ℕ) (i : ℕ) : Type 0 where

@@ -1,21 +1,22 @@
 // The index of a catalog in slots that the caller lends: built from its entries, and searched for a key. Not in the Rust, whose HashMap does
 // both. A slot holds an entry's index plus 1, or 0.
-use container_layout::Entry;
 use container_layout::Tables;
 use container_layout::wide;
 use lookup_scan::Hit;
 use lookup_scan::Size;
 use lookup_slots::Room;
 use refusal::Error;
+use text::Stretch;
 ghost use mathlib.Core.Path.{_≡_};
-ghost use Prim.Native.Nat.{_%_, _<_};
+ghost use Prim.Native.Nat.{_+_, _%_, _<_};
 ghost use lib.ListN.{length};
+ghost use Rattle.container_layout.specs.Mo.{entry};
 ghost use Rattle.lookup_scan.specs.Keys.{keyOf};
 ghost use Rattle.lookup_slots.specs.Hash.{hash};
 ghost use Rattle.lookup_slots.specs.Promise.{Hashes};
 ghost use Rattle.lookup_slots.specs.Slots.{insert, zeros, built};
 ghost use Rattle.lookup_index.specs.Index.{keyAt, indexed, soughtIn, building, leaves, number};
-ghost use Rattle.lookup_index.specs.Private.{beforeId, Power, Next, named, Stops};
+ghost use Rattle.lookup_index.specs.Private.{beforeId, Power, Next, named, Stops, keyOfOriginal, keyOfEntry};
 
 // What a lookup in lent slots finds: the entry with the key, or that too few slots are lent.
 pub enum Sought {
@@ -96,22 +97,24 @@ fn named_by(file: &[u8], t: Tables, x: u32, n: usize, given: bool, context: &[u8
     lookup_scan::hit_at(file, t, i, n, given, context, id)
 }
 
-// The search for a key of n bytes, through at most all slots.
+// The search for a key of n bytes with this hash, through at most all slots.
 fn search(
     file: &[u8],
     t: Tables,
     slots: &[u32],
+    h: usize,
     n: usize,
     given: bool,
     context: &[u8],
     id: &[u8],
 ) -> Stop
+    requires { ⌜ h ≡ hash (keyOf given (now context) (now id)) ⌝ }
     requires { ⌜ n ≡ length (keyOf given (now context) (now id)) ⌝ }
     requires { ⌜ Power (length (now slots)) ⌝ }
     ensures { λ r. ⌜ Stops (now (file .entry)) t (now (slots .entry)) (keyOf given (now (context .entry)) (now (id .entry))) r ⌝ }
 {
     let m = slots.len();
-    let mut p = home(hash_of(given, context, id), m);
+    let mut p = home(h, m);
     let mut left = m;
     while 0 < left {
         let x = slots[p];
@@ -146,7 +149,8 @@ fn hit_in(file: &[u8], t: Tables, slots: &[u32], given: bool, context: &[u8], id
     let Size::Is(n) = size else {
         return Hit::Missing;
     };
-    let stop = search(file, t, slots, n, given, context, id);
+    let h = hash_of(given, context, id);
+    let stop = search(file, t, slots, h, n, given, context, id);
     stop.hit
 }
 
@@ -162,19 +166,69 @@ pub fn find(file: &[u8], t: Tables, slots: &[u32], given: bool, context: &[u8], 
     Sought::Found(hit)
 }
 
+// Where the key of an entry lies, how long it is, and its hash.
+enum Key {
+    At(usize, usize, usize),
+    NoKey,
+}
+
+// The key of the original at a place, by its marks.
+fn key_by_marks(file: &[u8], at: usize, len: usize) -> Key
+    requires { ⌜ at + len < length (now file) ⌝ }
+    ensures { λ r. ⌜ r ≡ keyOfOriginal (now (file .entry)) at len ⌝ }
+{
+    let after = at + len + 1;
+    let parts = container_layout::split(&file[at..after]);
+    if len < parts.end {
+        return Key::NoKey;
+    }
+    let end = at + parts.end;
+    Key::At(at, parts.end, lookup_slots::hash_from(5381, &file[at..end]))
+}
+
+// The same: an original without a byte below 5, which is told in the pass that hashes it, has no mark, and where a NUL comes after it, it is the key.
+fn key_in(file: &[u8], at: usize, len: usize) -> Key
+    requires { ⌜ at + len < length (now file) ⌝ }
+    ensures { λ r. ⌜ r ≡ keyOfOriginal (now (file .entry)) at len ⌝ }
+{
+    let end = at + len;
+    if file[end] == 0 {
+        let hash = lookup_slots::hash_plain(5381, &file[at..end]);
+        if hash.plain {
+            return Key::At(at, len, hash.value);
+        }
+    }
+    key_by_marks(file, at, len)
+}
+
+// The key of entry i, by the load's tests of cells, strings and the id's ending.
+fn key_at(file: &[u8], t: Tables, i: usize) -> Key
+    ensures { λ r. ⌜ r ≡ keyOfEntry (now (file .entry)) (entry (now (file .entry)) t i) ⌝ }
+{
+    let original = container_layout::string_at(file, t.big, t.originals, i);
+    let Stretch::At(at, len) = original else {
+        return Key::NoKey;
+    };
+    let translation = container_layout::string_at(file, t.big, t.translations, i);
+    let Stretch::At(start, size) = translation else {
+        return Key::NoKey;
+    };
+    key_in(file, at, len)
+}
+
 // Entry i goes into the slots: where the search for its key stops.
 fn put(file: &[u8], t: Tables, i: usize, slots: &mut [u32])
     requires { ⌜ i < t .count ⌝ }
     requires { ⌜ Power (length (now slots)) ⌝ }
     ensures { λ _. ⌜ now (slots .exit) ≡ insert (keyAt (now (file .entry)) t) i (keyAt (now (file .entry)) t i) (now (slots .entry)) ⌝ }
 {
-    let entry = container_layout::entry_at(file, t, i);
-    let Entry::At(at, n, start, len) = entry else {
+    let found = key_at(file, t, i);
+    let Key::At(at, n, h) = found else {
         return;
     };
     let end = at + n;
     let key = &file[at..end];
-    let stop = search(file, t, &*slots, n, false, key, key);
+    let stop = search(file, t, &*slots, h, n, false, key, key);
     let p = stop.place;
     if p < slots.len() {
         slots[p] = narrow(i + 1);

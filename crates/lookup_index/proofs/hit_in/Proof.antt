@@ -16,10 +16,19 @@ enum-told : tie.Need-enum-told
 enum-told c = search needs
 
 returns : tie.Need-returns
-returns c = hit-long _ _ _ _ (sized-long (keyOf (c .before .before .before .before .before .before .before .args .given) (c .before .before .before .before .before .before .before .args .context .now) (c .before .before .before .before .before .before .before .args .id .now)) (c .before .before .size-of .ensures) (c .enum-told .given .1))
+returns c =
+    let s = c .before .before .before .before .before .before .before in
+    let key = keyOf (s .args .given) (s .args .context .now) (s .args .id .now) in
+    hit-long _ _ _ _ (sized-long key (c .before .before .size-of .ensures) (c .enum-told .given .1))
+
+hash-of-requires : tie.Need-hash-of-requires
+hash-of-requires c κs = search needs
 
 search-requires : tie.Need-search-requires
-search-requires c κs = (sized-is (keyOf (c .before .before .before .before .before .before .before .before .args .given) (c .before .before .before .before .before .before .before .before .args .context .now) (c .before .before .before .before .before .before .before .before .args .id .now)) (c .before .before .before .size-of .ensures) (c .before .size .given .1), c .before .before .before .before .before .before .before .before .pre)
+search-requires c κs =
+    let s = c .before .before .before .before .before .before .before .before .before in
+    let key = keyOf (s .args .given) (s .args .context .now) (s .args .id .now) in
+    (c .hash-of .ensures, (sized-is key (c .before .before .before .before .size-of .ensures) (c .before .before .size .given .1), s .pre))
 
 returns-2 : tie.Need-returns-2
 returns-2 c = c .search .ensures .hit-is
@@ -27,4 +36,4 @@ returns-2 c = c .search .ensures .hit-is
 pub hit-in-spec : {M : Type 1} → statement M
 hit-in-spec =
     tie.close
-    (tie.spec size-of-requires enum-known-size enum-told returns search-requires returns-2)
+    (tie.spec size-of-requires enum-known-size enum-told returns hash-of-requires search-requires returns-2)

@@ -1,24 +1,29 @@
--- What is no entry is passed over; an entry goes where the search for its key stops. Assumes nothing.
+-- What has no key is passed over; an entry goes where the search for its key stops. Assumes nothing.
 use native.Mathlib.Omega.{arith}
-use Rattle.lookup_index.proofs.Filled.{put-none, key-inside, key-length, put-at, put-full}
+use Rattle.lookup_index.proofs.Keyed.{not-keyed, keyed-at}
+use Rattle.lookup_index.proofs.Filled.{put-key, put-at, put-full}
 use borrow.Author.Needs.{needs}
 use Rattle.lookup_index.proofs.put.Statement.{statement}
 use Rattle.lookup_index.proofs.put.Tie as tie
 
-entry-at-requires : tie.Need-entry-at-requires
-entry-at-requires c κs = search needs
+key-at-requires : tie.Need-key-at-requires
+key-at-requires c κs = search needs
 
-enum-known-entry : tie.Need-enum-known-entry
-enum-known-entry c = search needs
+enum-known-found : tie.Need-enum-known-found
+enum-known-found c = search needs
 
 enum-told : tie.Need-enum-told
 enum-told c = search needs
 
 returns : tie.Need-returns
-returns c = put-none _ _ _ (c .before .before .before .before .before .pre .0) (c .before .before .entry-at .ensures) _ (c .enum-told .given .1)
+returns c =
+    put-key _ _ _ _ (not-keyed _ _ _ (c .before .before .before .before .before .pre .0) (c .before .before .key-at .ensures) (c .enum-told .given .1))
 
 add-end : tie.Need-add-end
-add-end c = omega (arith, key-inside _ _ _ (c .before .before .before .before .before .before .pre .0) (c .before .before .before .entry-at .ensures) (c .before .before .before .before .before .before .args .slots .now) (c .before .entry .given .1))
+add-end c =
+    let f = c .before in
+    let k = keyed-at _ _ _ (f .before .before .before .before .before .pre .0) (f .before .before .key-at .ensures) (f .found .given .1) in
+    omega (arith, k .inside)
 
 sub-key : tie.Need-sub-key
 sub-key c = search needs
@@ -27,10 +32,16 @@ part-key-start : tie.Need-part-key-start
 part-key-start c = search needs
 
 part-key-end : tie.Need-part-key-end
-part-key-end c = omega (arith, key-inside _ _ _ (c .before .before .before .before .before .before .pre .0) (c .before .before .before .entry-at .ensures) (c .before .before .before .before .before .before .args .slots .now) (c .before .entry .given .1))
+part-key-end c =
+    let f = c .before in
+    let k = keyed-at _ _ _ (f .before .before .before .before .before .pre .0) (f .before .before .key-at .ensures) (f .found .given .1) in
+    omega (arith, k .inside)
 
 search-requires : tie.Need-search-requires
-search-requires c κs = (key-length _ _ _ (c .before .before .before .before .before .before .before .before .pre .0) (c .before .before .before .before .before .entry-at .ensures) (c .before .before .before .before .before .before .before .before .args .slots .now) (c .before .before .before .entry .given .1), c .before .before .before .before .before .before .before .before .pre .1)
+search-requires c κs =
+    let f = c .before .before .before in
+    let k = keyed-at _ _ _ (f .before .before .before .before .before .pre .0) (f .before .before .key-at .ensures) (f .found .given .1) in
+    (k .hashed, (k .size, f .before .before .before .before .before .pre .1))
 
 add-narrow : tie.Need-add-narrow
 add-narrow c = search needs
@@ -48,20 +59,26 @@ same-length : tie.Need-same-length
 same-length c = search needs
 
 returns-2 : tie.Need-returns-2
-returns-2 c = put-at _ _ _ (c .before .before .before .before .before .before .before .before .before .before .before .pre .0) (c .before .before .before .before .before .before .before .before .entry-at .ensures) _ (c .before .before .before .before .before .before .entry .given .1) (c .before .before .search .ensures .place-is) (c .narrow .ensures)
+returns-2 c =
+    let f = c .before .before .before .before .before .before in
+    let k = keyed-at _ _ _ (f .before .before .before .before .before .pre .0) (f .before .before .key-at .ensures) (f .found .given .1) in
+    put-at _ _ _ _ (k .is) (c .before .before .search .ensures .place-is) (c .narrow .ensures)
 
 same-length-2 : tie.Need-same-length-2
 same-length-2 c = search needs
 
 returns-3 : tie.Need-returns-3
-returns-3 c = put-full _ _ _ (c .before .before .before .before .before .before .before .before .before .before .pre .0) (c .before .before .before .before .before .before .before .entry-at .ensures) _ (c .before .before .before .before .before .entry .given .1) (c .before .search .ensures .place-is) (c .if1 .left)
+returns-3 c =
+    let f = c .before .before .before .before .before in
+    let k = keyed-at _ _ _ (f .before .before .before .before .before .pre .0) (f .before .before .key-at .ensures) (f .found .given .1) in
+    put-full _ _ _ _ (k .is) (c .before .search .ensures .place-is) (c .if1 .left)
 
 pub put-spec : {M : Type 1} → statement M
 put-spec =
     tie.close
     (tie.spec
-    entry-at-requires
-    enum-known-entry
+    key-at-requires
+    enum-known-found
     enum-told
     returns
     add-end
