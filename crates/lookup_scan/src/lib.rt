@@ -65,8 +65,8 @@ fn from_byte(b: u8) -> usize
     b as usize
 }
 
-// Whether a string has a NUL after n bytes, or at its end. What it lacks to n bytes and the byte there are looked at together: the length alone is less or
-// more for every second entry, so that a test of it would be mispredicted as often.
+// Whether a string has n bytes or more, and a NUL after n of them. What it lacks to n bytes and the byte there are looked at together: the length alone is less
+// or more for every second entry, so that a test of it would be mispredicted as often.
 fn ends_after(file: &[u8], at: usize, len: usize, n: usize) -> bool
     requires { ⌜ at + len < length (now file) ⌝ }
     ensures { λ r. ⌜ r ≡ endsAfter (now (file .entry)) at len n ⌝ }
