@@ -1,5 +1,5 @@
-//! The port beside gettext 0.4.0, std and glibc: `bench OUT SCRATCH FOLDER..` prints a table of ratios, and writes it as OUT/README.md, beside
-//! OUT/bench.csv and OUT/bench.svg. Every figure is the best of several repeats in this one process; nothing here is a test.
+//! The port beside gettext 0.4.0, std and glibc: `bench OUT SCRATCH FOLDER..` prints a table of ratios, and writes OUT/bench.csv and
+//! OUT/bench.svg. Every figure is the best of several repeats in this one process; nothing here is a test.
 use std::collections::BTreeMap;
 use std::fmt::Write as _;
 use std::fs;
@@ -15,7 +15,6 @@ mod count;
 mod ffi;
 mod files;
 mod glibc;
-mod page;
 mod plot;
 // the crate's own src/plurals.rs, which takes the error from a module of this name (build.rs)
 #[cfg(evaluation_alone)]
@@ -282,7 +281,7 @@ fn building(rows: &mut Vec<Row>, files: &[Vec<u8>]) {
             let start = Instant::now();
             keep(ffi::load(black_box(file), None, false, false, false, &mut record));
             let load = start.elapsed();
-            if record.words.count == 0 {
+            if record.head.count == 0 {
                 continue;
             }
             slots.resize(ffi::slots(&record), 0);
@@ -290,7 +289,7 @@ fn building(rows: &mut Vec<Row>, files: &[Vec<u8>]) {
             keep(ffi::index(black_box(file), &record, &mut slots));
             let build = start.elapsed();
             sums = [sums[0] + load.as_secs_f64(), sums[1] + build.as_secs_f64()];
-            entries += record.words.count as usize;
+            entries += record.head.count;
             catalogs += 1;
         }
         least = [least[0].min(sums[0]), least[1].min(sums[1])];
@@ -476,9 +475,7 @@ fn main() {
     index(&mut rows, Path::new(scratch), folders);
     building(&mut rows, &files);
     let most = crossover();
-    let table = table(&rows, &most);
-    print!("{table}");
-    fs::write(Path::new(out).join("README.md"), page::page(&table)).expect("the page is written");
+    print!("{}", table(&rows, &most));
     fs::write(Path::new(out).join("bench.csv"), csv(&rows)).expect("the CSV is written");
     fs::write(Path::new(out).join("bench.svg"), plot::svg(&rows)).expect("the plot is written");
 }

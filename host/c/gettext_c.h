@@ -2,16 +2,15 @@
  * MO catalogs where they lie: the proved port of gettext 0.4.0 for a host in C. Link with libgettext_c.a, which host/library builds.
  * C99 or later, and C++11 or later.
  *
- * Ownership. The caller owns everything. The file's bytes are lent for the time of a call; a call writes what it is
- * given to write and nothing else: gr_load and gr_empty a record, gr_index slots, gr_rule_text a buffer, gr_span figures. What is written must not
- * overlap what is lent to be read. The library keeps no pointer and allocates nothing. The record is a plain value: it may be copied,
+ * Ownership. The caller owns everything. The file's bytes are lent for the time of a call; a load writes the record that it is given,
+ * building an index writes the slots that it is given, and no other call writes anything. The library keeps no pointer and allocates nothing. The record is a plain value: it may be copied,
  * stored, sent to another process. A lookup answers with a part of the file or one of the caller's own texts; a text lives as long as
  * what it is a part of.
  *
  * Threads. The library has no state. Any calls may run at the same time.
  *
- * Stack. 256 KiB are enough for any load, 32 KiB for every other call and for a load with the rule n, whatever the file, the rule and the record.
- * stack.c makes the calls on stacks of just that size; docs/SPEC.md, section 16, has what they took.
+ * Stack. 256 KiB are enough for any load, 32 KiB for every other call and for a load with the rule n, whatever the file, the rule and the record; of
+ * these, 236,928 and 28,208 bytes were taken at most on Arm, 220,664 and 28,144 on x86-64. stack.c makes the calls on stacks of just that size.
  *
  * Input. Every value has an answer: any bytes as file, any record and any slots (altered, or of another file), any rule, any key and any
  * count. In the
@@ -33,8 +32,8 @@ extern "C" {
 #define GR_VERSION "0.3.0"
 #define GR_VERSION_NUMBER 300 /* 10000 * major + 100 * minor + patch */
 
-/* 1 to 8 and 13 come from a load and refuse the file; 10 to 12 come from a lookup, whose answer is then the caller's own text. 8 also comes from
- * writing a rule's text; 11 from every call that takes a record but gr_slots, 12 from building an index, 17 from a span. 9 is not given. */
+/* 1 to 8 and 13 come from a load and refuse the file; 10 to 12 come from a lookup, whose answer is then the caller's own text, 11 and 12 also from
+ * building an index. 9 is not given. */
 enum gr_number {
     GR_OK = 0,
     GR_EOF = 1,                /* the file ends before something that it names */
@@ -44,8 +43,8 @@ enum gr_number {
     GR_MISPLACED_METADATA = 5, /* an empty id at another entry than the first */
     GR_PLURAL_PARSING = 6,     /* the plural rule has no reading */
     GR_UNKNOWN_ENCODING = 7,   /* the header's charset is not UTF-8 */
-    GR_RULE_TOO_LONG = 8,      /* the plural rule has over 512 bytes, or its text is longer than the buffer */
-    GR_ZERO_MODULUS = 10,      /* the plural rule takes a remainder or quotient by zero at this count */
+    GR_RULE_TOO_LONG = 8,      /* the plural rule has over 512 bytes */
+    GR_ZERO_MODULUS = 10,      /* the plural rule takes a remainder by zero at this count */
     GR_BAD_RECORD = 11,        /* the file has another length than the record says, or its rule is no tree */
     GR_INDEX_ROOM = 12,        /* fewer slots are lent than the index uses */
     GR_NOT_FIT = 13,           /* the load demands that the rule fit the header's count of forms: there is none, or it does not */
@@ -74,35 +73,30 @@ enum gr_reading {
     GR_STANDARD = 1 /* by C's grammar, as the GNU gettext manual asks */
 };
 
-/* The head of a record: the file's length, how many nodes the rule has, and which is its root. */
+/* The head of a record: the file's length, how many entries it has, where its tables lie, whether (not 0) the highest byte of a word
+ * comes first, how many nodes the rule has, and which is its root. */
 typedef struct gr_head {
     size_t length;
+    size_t count;
+    size_t originals;
+    size_t translations;
+    size_t big;
     size_t nodes;
     size_t root;
 } gr_head;
 
-/* Its words, of 32 bits as in the file: how many entries there are, where the two tables lie, and whether (not 0) the highest byte of a word
- * comes first. */
-typedef struct gr_words {
-    uint32_t count;
-    uint32_t originals;
-    uint32_t translations;
-    uint32_t big;
-} gr_words;
-
-/* What lookups need beside the file, and the header's count of forms, which they do not look at: 6,712 bytes. The rule is nodes: codes, two
+/* What lookups need beside the file, and the header's count of forms, which they do not look at: 6,728 bytes. The rule is nodes: codes, two
  * fields each, and values. Where counted is 1 forms is the count, else both are 0. */
 typedef struct gr_record {
     gr_head head;
-    gr_words words;
     uint64_t values[512];
-    uint16_t fields[1024];
+    uint16_t places[1024];
     uint8_t codes[512];
     uint64_t forms;
     uint32_t counted;
 } gr_record;
 
-/* A load's number, and the head and the words of its record: that of the empty catalog where the number is not 0. Where a load was refused, side is the
+/* A load's number, and the head of its record: that of the empty catalog where the number is not 0. Where a load was refused, side is the
  * side that failed, and where entered is 1, entry is the entry, counted from 0; the whole file names neither, a forced rule its side only.
  * Where counted is 1, forms is the header's count of forms. */
 typedef struct gr_loaded {
@@ -113,7 +107,6 @@ typedef struct gr_loaded {
     size_t entry;
     uint64_t forms;
     gr_head head;
-    gr_words words;
 } gr_loaded;
 
 /* A lookup's answer. Where which is GR_SEGMENT, entry is the index of the entry, form which of its translation's forms, and start + len is
@@ -160,8 +153,7 @@ enum gr_reason {
     GR_ZERO_DIVISOR = 3,     /* the rule divides by zero, at node */
     GR_NO_ENTRY = 4,         /* no entry has the key */
     GR_TOO_FEW_SEGMENTS = 5, /* the last entry with the key stores so many forms, and the rule names form */
-    GR_ANSWERED = 6,         /* the segment of entry for form, at start of the file, of len bytes */
-    GR_FEW_SLOTS = 7         /* fewer slots are lent than the search uses: before a zero divisor, after nodes that are no tree */
+    GR_ANSWERED = 6          /* the segment of entry for form, at start of the file, of len bytes */
 };
 
 /* A reason, and what the lookup answers, which is a function of it: number and which are as in gr_answer. What a reason does not tell is 0. */
@@ -180,62 +172,53 @@ typedef struct gr_explained {
 /* A layout that the library does not share does not compile: an array of a negative size. */
 #define GR_LAYOUT(name, holds) typedef char gr_layout_of_##name[(holds) ? 1 : -1]
 GR_LAYOUT(size_t, sizeof(size_t) == 8);
-GR_LAYOUT(gr_head, sizeof(gr_head) == 24);
-GR_LAYOUT(gr_words, sizeof(gr_words) == 16);
-GR_LAYOUT(gr_record, sizeof(gr_record) == 6712);
-GR_LAYOUT(gr_record_values, offsetof(gr_record, values) == 40);
-GR_LAYOUT(gr_record_fields, offsetof(gr_record, fields) == 40 + 4096);
-GR_LAYOUT(gr_record_codes, offsetof(gr_record, codes) == 40 + 4096 + 2048);
-GR_LAYOUT(gr_record_forms, offsetof(gr_record, forms) == 40 + 4096 + 2048 + 512);
-GR_LAYOUT(gr_loaded, sizeof(gr_loaded) == 72);
+GR_LAYOUT(gr_head, sizeof(gr_head) == 56);
+GR_LAYOUT(gr_record, sizeof(gr_record) == 6728);
+GR_LAYOUT(gr_record_values, offsetof(gr_record, values) == 56);
+GR_LAYOUT(gr_record_places, offsetof(gr_record, places) == 56 + 4096);
+GR_LAYOUT(gr_record_codes, offsetof(gr_record, codes) == 56 + 4096 + 2048);
+GR_LAYOUT(gr_record_forms, offsetof(gr_record, forms) == 56 + 4096 + 2048 + 512);
+GR_LAYOUT(gr_loaded, sizeof(gr_loaded) == 88);
 GR_LAYOUT(gr_loaded_entry, offsetof(gr_loaded, entry) == 16);
 GR_LAYOUT(gr_loaded_forms, offsetof(gr_loaded, forms) == 24);
 GR_LAYOUT(gr_answer, sizeof(gr_answer) == 40);
 GR_LAYOUT(gr_range, sizeof(gr_range) == 24);
 GR_LAYOUT(gr_fit, sizeof(gr_fit) == 8);
 GR_LAYOUT(gr_form, sizeof(gr_form) == 16);
-GR_LAYOUT(gr_written, sizeof(gr_written) == 16);
 GR_LAYOUT(gr_explained, sizeof(gr_explained) == 64);
 
 /*
  * The exported functions, as the library has them: pointers and lengths, none of them null, also where the length is 0. A host rather calls
  * the gr_ functions below. A flag is set by any number but 0; `given` says that a context is given.
  */
-uint32_t gettext_c_boundary_4(void); /* the number of this boundary: a library of another one has no such function, and does not link */
-gr_loaded gettext_c_empty(uint8_t codes[512], uint16_t fields[1024], uint64_t values[512]);
+gr_loaded gettext_c_empty(uint8_t codes[512], uint16_t places[1024], uint64_t values[512]);
 gr_loaded gettext_c_load(const uint8_t *file, size_t file_len, const uint8_t *rule, size_t rule_len, uint32_t forced, uint32_t standard,
-                         uint32_t utf8, uint32_t fit, uint8_t codes[512], uint16_t fields[1024], uint64_t values[512]);
-gr_answer gettext_c_gettext(const uint8_t *file, size_t file_len, const gr_head *head, const gr_words *words, uint32_t given, const uint8_t *context,
+                         uint32_t utf8, uint32_t fit, uint8_t codes[512], uint16_t places[1024], uint64_t values[512]);
+gr_answer gettext_c_gettext(const uint8_t *file, size_t file_len, const gr_head *head, uint32_t given, const uint8_t *context,
                             size_t context_len, const uint8_t *id, size_t id_len);
-gr_answer gettext_c_ngettext(const uint8_t *file, size_t file_len, const gr_head *head, const gr_words *words, const uint8_t codes[512],
-                             const uint16_t fields[1024], const uint64_t values[512], uint32_t given, const uint8_t *context,
+gr_answer gettext_c_ngettext(const uint8_t *file, size_t file_len, const gr_head *head, const uint8_t codes[512],
+                             const uint16_t places[1024], const uint64_t values[512], uint32_t given, const uint8_t *context,
                              size_t context_len, const uint8_t *id, size_t id_len, uint64_t n);
-size_t gettext_c_slots(const gr_words *words);
-uint32_t gettext_c_index(const uint8_t *file, size_t file_len, const gr_head *head, const gr_words *words, uint32_t *slots, size_t slots_len);
-gr_answer gettext_c_gettext_indexed(const uint8_t *file, size_t file_len, const gr_head *head, const gr_words *words, const uint32_t *slots, size_t slots_len,
+size_t gettext_c_slots(const gr_head *head);
+uint32_t gettext_c_index(const uint8_t *file, size_t file_len, const gr_head *head, uint32_t *slots, size_t slots_len);
+gr_answer gettext_c_gettext_indexed(const uint8_t *file, size_t file_len, const gr_head *head, const uint32_t *slots, size_t slots_len,
                                     uint32_t given, const uint8_t *context, size_t context_len, const uint8_t *id, size_t id_len);
-gr_answer gettext_c_ngettext_indexed(const uint8_t *file, size_t file_len, const gr_head *head, const gr_words *words, const uint32_t *slots, size_t slots_len,
-                                     const uint8_t codes[512], const uint16_t fields[1024], const uint64_t values[512], uint32_t given,
+gr_answer gettext_c_ngettext_indexed(const uint8_t *file, size_t file_len, const gr_head *head, const uint32_t *slots, size_t slots_len,
+                                     const uint8_t codes[512], const uint16_t places[1024], const uint64_t values[512], uint32_t given,
                                      const uint8_t *context, size_t context_len, const uint8_t *id, size_t id_len, uint64_t n);
-gr_range gettext_c_rating(const gr_head *head, const uint8_t codes[512], const uint16_t fields[1024], const uint64_t values[512]);
-gr_fit gettext_c_fits(const gr_head *head, const uint8_t codes[512], const uint16_t fields[1024], const uint64_t values[512], uint64_t k);
-gr_form gettext_c_resolve(const gr_head *head, const uint8_t codes[512], const uint16_t fields[1024], const uint64_t values[512],
+gr_range gettext_c_rating(const gr_head *head, const uint8_t codes[512], const uint16_t places[1024], const uint64_t values[512]);
+gr_fit gettext_c_fits(const gr_head *head, const uint8_t codes[512], const uint16_t places[1024], const uint64_t values[512], uint64_t k);
+gr_form gettext_c_resolve(const gr_head *head, const uint8_t codes[512], const uint16_t places[1024], const uint64_t values[512],
                           uint64_t n);
-uint32_t gettext_c_span(const gr_head *head, const uint8_t codes[512], const uint16_t fields[1024], const uint64_t values[512], uint64_t a,
+uint32_t gettext_c_span(const gr_head *head, const uint8_t codes[512], const uint16_t places[1024], const uint64_t values[512], uint64_t a,
                         uint64_t b, uint64_t figures[18]);
-gr_written gettext_c_text(const gr_head *head, const uint8_t codes[512], const uint16_t fields[1024], const uint64_t values[512],
+gr_written gettext_c_text(const gr_head *head, const uint8_t codes[512], const uint16_t places[1024], const uint64_t values[512],
                           uint8_t *buffer, size_t buffer_len);
-gr_explained gettext_c_why_ngettext(const uint8_t *file, size_t file_len, const gr_head *head, const gr_words *words, const uint8_t codes[512],
-                                    const uint16_t fields[1024], const uint64_t values[512], uint32_t given, const uint8_t *context,
+gr_explained gettext_c_why_ngettext(const uint8_t *file, size_t file_len, const gr_head *head, const uint8_t codes[512],
+                                    const uint16_t places[1024], const uint64_t values[512], uint32_t given, const uint8_t *context,
                                     size_t context_len, const uint8_t *id, size_t id_len, uint64_t n);
 uint32_t gettext_c_is_utf8(const uint8_t *text, size_t text_len);
 uint64_t gettext_c_cost(const uint8_t *file, size_t file_len);
-
-/* So that every program that includes this header asks the linker for it. */
-#if defined(__GNUC__)
-__attribute__((used))
-#endif
-static uint32_t (*const gr_boundary)(void) = gettext_c_boundary_4;
 
 /*
  * The same in one call each. Ids, contexts and rules are strings that end in NUL. The text of an answer does NOT end in NUL in general:
@@ -329,11 +312,9 @@ static inline gr_text gr_text_of(gr_answer a, const void *file, const char *id, 
 /* Makes *record that of the empty catalog: no entries, and the default rule n != 1. */
 static inline void gr_empty(gr_record *record)
 {
-    gr_loaded l = gettext_c_empty(record->codes, record->fields, record->values);
-    record->head = l.head;
-    record->words = l.words;
-    record->forms = l.forms;
-    record->counted = l.counted;
+    record->head = gettext_c_empty(record->codes, record->places, record->values).head;
+    record->forms = 0;
+    record->counted = 0;
 }
 
 /* Loads into *record and tells how it went; where the number is not 0 the record is the empty catalog's, and side, entered and entry say
@@ -345,9 +326,8 @@ static inline gr_loaded gr_load_located(const void *file, size_t file_len, const
     uint32_t utf8 = options != NULL && options->utf8 != 0;
     uint32_t fit = options != NULL && options->fit != 0;
     gr_loaded l = gettext_c_load(gr_bytes(file), gr_size(file, file_len), gr_bytes(rule), gr_length(rule), rule != NULL, standard, utf8,
-                                 fit, record->codes, record->fields, record->values);
+                                 fit, record->codes, record->places, record->values);
     record->head = l.head;
-    record->words = l.words;
     record->forms = l.forms;
     record->counted = l.counted;
     return l;
@@ -362,13 +342,13 @@ static inline uint32_t gr_load(const void *file, size_t file_len, const gr_optio
 /* The translation of the id, alone or in a context. Without one: the id, with number 0. */
 static inline gr_text gr_gettext(const void *file, size_t file_len, const gr_record *r, const char *id)
 {
-    gr_answer a = gettext_c_gettext(gr_bytes(file), gr_size(file, file_len), &r->head, &r->words, 0, gr_bytes(NULL), 0, gr_bytes(id), gr_length(id));
+    gr_answer a = gettext_c_gettext(gr_bytes(file), gr_size(file, file_len), &r->head, 0, gr_bytes(NULL), 0, gr_bytes(id), gr_length(id));
     return gr_text_of(a, file, id, id);
 }
 
 static inline gr_text gr_pgettext(const void *file, size_t file_len, const gr_record *r, const char *context, const char *id)
 {
-    gr_answer a = gettext_c_gettext(gr_bytes(file), gr_size(file, file_len), &r->head, &r->words, 1, gr_bytes(context), gr_length(context),
+    gr_answer a = gettext_c_gettext(gr_bytes(file), gr_size(file, file_len), &r->head, 1, gr_bytes(context), gr_length(context),
                                     gr_bytes(id), gr_length(id));
     return gr_text_of(a, file, id, id);
 }
@@ -376,7 +356,7 @@ static inline gr_text gr_pgettext(const void *file, size_t file_len, const gr_re
 /* The same in the form for the count n. Without one: the id if n is 1, the plural id otherwise. */
 static inline gr_text gr_ngettext(const void *file, size_t file_len, const gr_record *r, const char *id, const char *plural_id, uint64_t n)
 {
-    gr_answer a = gettext_c_ngettext(gr_bytes(file), gr_size(file, file_len), &r->head, &r->words, r->codes, r->fields, r->values, 0, gr_bytes(NULL), 0,
+    gr_answer a = gettext_c_ngettext(gr_bytes(file), gr_size(file, file_len), &r->head, r->codes, r->places, r->values, 0, gr_bytes(NULL), 0,
                                      gr_bytes(id), gr_length(id), n);
     return gr_text_of(a, file, id, plural_id);
 }
@@ -384,7 +364,7 @@ static inline gr_text gr_ngettext(const void *file, size_t file_len, const gr_re
 static inline gr_text gr_npgettext(const void *file, size_t file_len, const gr_record *r, const char *context, const char *id,
                                    const char *plural_id, uint64_t n)
 {
-    gr_answer a = gettext_c_ngettext(gr_bytes(file), gr_size(file, file_len), &r->head, &r->words, r->codes, r->fields, r->values, 1,
+    gr_answer a = gettext_c_ngettext(gr_bytes(file), gr_size(file, file_len), &r->head, r->codes, r->places, r->values, 1,
                                      gr_bytes(context), gr_length(context), gr_bytes(id), gr_length(id), n);
     return gr_text_of(a, file, id, plural_id);
 }
@@ -392,14 +372,14 @@ static inline gr_text gr_npgettext(const void *file, size_t file_len, const gr_r
 /* Why gr_ngettext and gr_npgettext of the same answer as they do; the text that they give is gr_text_why's. */
 static inline gr_explained gr_why_ngettext(const void *file, size_t file_len, const gr_record *r, const char *id, uint64_t n)
 {
-    return gettext_c_why_ngettext(gr_bytes(file), gr_size(file, file_len), &r->head, &r->words, r->codes, r->fields, r->values, 0, gr_bytes(NULL), 0,
+    return gettext_c_why_ngettext(gr_bytes(file), gr_size(file, file_len), &r->head, r->codes, r->places, r->values, 0, gr_bytes(NULL), 0,
                                   gr_bytes(id), gr_length(id), n);
 }
 
 static inline gr_explained gr_why_npgettext(const void *file, size_t file_len, const gr_record *r, const char *context, const char *id,
                                             uint64_t n)
 {
-    return gettext_c_why_ngettext(gr_bytes(file), gr_size(file, file_len), &r->head, &r->words, r->codes, r->fields, r->values, 1, gr_bytes(context),
+    return gettext_c_why_ngettext(gr_bytes(file), gr_size(file, file_len), &r->head, r->codes, r->places, r->values, 1, gr_bytes(context),
                                   gr_length(context), gr_bytes(id), gr_length(id), n);
 }
 
@@ -432,7 +412,7 @@ static inline const char *gr_reason_name(uint32_t kind)
  */
 static inline size_t gr_slots(const gr_record *r)
 {
-    return gettext_c_slots(&r->words);
+    return gettext_c_slots(&r->head);
 }
 
 /* No slots, where a pointer is null. */
@@ -445,13 +425,13 @@ static inline const uint32_t *gr_none(const uint32_t *slots)
 static inline uint32_t gr_index(const void *file, size_t file_len, const gr_record *r, uint32_t *slots, size_t slots_len)
 {
     uint32_t none = 0;
-    return gettext_c_index(gr_bytes(file), gr_size(file, file_len), &r->head, &r->words, slots != NULL ? slots : &none, gr_size(slots, slots_len));
+    return gettext_c_index(gr_bytes(file), gr_size(file, file_len), &r->head, slots != NULL ? slots : &none, gr_size(slots, slots_len));
 }
 
 static inline gr_text gr_gettext_indexed(const void *file, size_t file_len, const gr_record *r, const uint32_t *slots, size_t slots_len,
                                          const char *id)
 {
-    gr_answer a = gettext_c_gettext_indexed(gr_bytes(file), gr_size(file, file_len), &r->head, &r->words, gr_none(slots), gr_size(slots, slots_len),
+    gr_answer a = gettext_c_gettext_indexed(gr_bytes(file), gr_size(file, file_len), &r->head, gr_none(slots), gr_size(slots, slots_len),
                                             0, gr_bytes(NULL), 0, gr_bytes(id), gr_length(id));
     return gr_text_of(a, file, id, id);
 }
@@ -459,7 +439,7 @@ static inline gr_text gr_gettext_indexed(const void *file, size_t file_len, cons
 static inline gr_text gr_pgettext_indexed(const void *file, size_t file_len, const gr_record *r, const uint32_t *slots, size_t slots_len,
                                           const char *context, const char *id)
 {
-    gr_answer a = gettext_c_gettext_indexed(gr_bytes(file), gr_size(file, file_len), &r->head, &r->words, gr_none(slots), gr_size(slots, slots_len),
+    gr_answer a = gettext_c_gettext_indexed(gr_bytes(file), gr_size(file, file_len), &r->head, gr_none(slots), gr_size(slots, slots_len),
                                             1, gr_bytes(context), gr_length(context), gr_bytes(id), gr_length(id));
     return gr_text_of(a, file, id, id);
 }
@@ -467,8 +447,8 @@ static inline gr_text gr_pgettext_indexed(const void *file, size_t file_len, con
 static inline gr_text gr_ngettext_indexed(const void *file, size_t file_len, const gr_record *r, const uint32_t *slots, size_t slots_len,
                                           const char *id, const char *plural_id, uint64_t n)
 {
-    gr_answer a = gettext_c_ngettext_indexed(gr_bytes(file), gr_size(file, file_len), &r->head, &r->words, gr_none(slots), gr_size(slots, slots_len),
-                                             r->codes, r->fields, r->values, 0, gr_bytes(NULL), 0, gr_bytes(id), gr_length(id), n);
+    gr_answer a = gettext_c_ngettext_indexed(gr_bytes(file), gr_size(file, file_len), &r->head, gr_none(slots), gr_size(slots, slots_len),
+                                             r->codes, r->places, r->values, 0, gr_bytes(NULL), 0, gr_bytes(id), gr_length(id), n);
     return gr_text_of(a, file, id, plural_id);
 }
 
@@ -476,36 +456,35 @@ static inline gr_text gr_npgettext_indexed(const void *file, size_t file_len, co
                                            const char *context, const char *id, const char *plural_id, uint64_t n)
 {
     gr_answer a =
-        gettext_c_ngettext_indexed(gr_bytes(file), gr_size(file, file_len), &r->head, &r->words, gr_none(slots), gr_size(slots, slots_len), r->codes,
-                                   r->fields, r->values, 1, gr_bytes(context), gr_length(context), gr_bytes(id), gr_length(id), n);
+        gettext_c_ngettext_indexed(gr_bytes(file), gr_size(file, file_len), &r->head, gr_none(slots), gr_size(slots, slots_len), r->codes,
+                                   r->places, r->values, 1, gr_bytes(context), gr_length(context), gr_bytes(id), gr_length(id), n);
     return gr_text_of(a, file, id, plural_id);
 }
 
 /* The rule's range; whether it has one and its highest form is below k; the form that it names for n. */
 static inline gr_range gr_rating(const gr_record *r)
 {
-    return gettext_c_rating(&r->head, r->codes, r->fields, r->values);
+    return gettext_c_rating(&r->head, r->codes, r->places, r->values);
 }
 
 static inline gr_fit gr_fits(const gr_record *r, uint64_t k)
 {
-    return gettext_c_fits(&r->head, r->codes, r->fields, r->values, k);
+    return gettext_c_fits(&r->head, r->codes, r->places, r->values, k);
 }
 
 static inline gr_form gr_resolve(const gr_record *r, uint64_t n)
 {
-    return gettext_c_resolve(&r->head, r->codes, r->fields, r->values, n);
+    return gettext_c_resolve(&r->head, r->codes, r->places, r->values, n);
 }
 
 /*
  * Writes the rule's text with brackets round every operator: both readings give that very rule back (the Standard one alone, where it has
  * + - * or /). A buffer of 512 bytes is always enough. Answers GR_OK and the length, GR_BAD_RECORD, or GR_RULE_TOO_LONG for a text over 512 bytes or
- * longer than the buffer, a null buffer being one of no bytes; a refusal writes nothing, and the rest of the buffer stays. No NUL is added.
+ * longer than the buffer; a refusal writes nothing, and the rest of the buffer stays. No NUL is added.
  */
 static inline gr_written gr_rule_text(const gr_record *r, char *buffer, size_t buffer_len)
 {
-    uint8_t none;
-    return gettext_c_text(&r->head, r->codes, r->fields, r->values, buffer != NULL ? (uint8_t *)buffer : &none, gr_size(buffer, buffer_len));
+    return gettext_c_text(&r->head, r->codes, r->places, r->values, (uint8_t *)buffer, buffer_len);
 }
 
 /*
@@ -514,7 +493,7 @@ static inline gr_written gr_rule_text(const gr_record *r, char *buffer, size_t b
  */
 static inline uint32_t gr_span(const gr_record *r, uint64_t a, uint64_t b, uint64_t figures[GR_FIGURES])
 {
-    return gettext_c_span(&r->head, r->codes, r->fields, r->values, a, b, figures);
+    return gettext_c_span(&r->head, r->codes, r->places, r->values, a, b, figures);
 }
 
 /* Whether a text is UTF-8 by RFC 3629. */
@@ -523,8 +502,8 @@ static inline int gr_is_utf8(const void *text, size_t text_len)
     return gettext_c_is_utf8(gr_bytes(text), gr_size(text, text_len)) != 0;
 }
 
-/* What loading a file costs: the sum of the lengths that its tables state, which is how many bytes of strings a load looks at, at most, but for
- * the byte after each original; in the time of a pass over its tables. Entries may overlap, so a file of 1 MiB can cost gigabytes: a host that loads what strangers send
+/* What loading a file costs: the sum of the lengths that its tables state, which is how many bytes of strings a load looks at, at most, in
+ * the time of a pass over its tables. Entries may overlap, so a file of 1 MiB can cost gigabytes: a host that loads what strangers send
  * refuses first what it will not pay for. A file whose entries do not overlap costs less than it has bytes. */
 static inline uint64_t gr_cost(const void *file, size_t file_len)
 {

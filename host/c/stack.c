@@ -339,8 +339,8 @@ enum {
 static void put_node(size_t at, int code, size_t x, size_t y, uint64_t value)
 {
     record.codes[at] = (uint8_t)code;
-    record.fields[2 * at] = (uint16_t)x;
-    record.fields[2 * at + 1] = (uint16_t)y;
+    record.places[2 * at] = (uint16_t)x;
+    record.places[2 * at + 1] = (uint16_t)y;
     record.values[at] = value;
     record.head.nodes = at + 1;
     record.head.root = at;

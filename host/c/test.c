@@ -1,4 +1,4 @@
-/* Calls each function of gettext_c.h once and more, on the files F and G of SPEC 17. Says how many checks passed. */
+/* Calls each function of gettext_c.h once and more, on document 01's files F and G. Says how many checks passed. */
 #include "gettext_c.h"
 
 #include <stdio.h>
@@ -33,7 +33,7 @@ static int is(gr_text t, uint32_t number, const char *text)
     return t.number == number && t.len == strlen(text) && memcmp(t.text, text, t.len) == 0;
 }
 
-/* The file G of SPEC 17: F with the forms "b" and "c". Its first 48 bytes with byte 36 made 1 are F. */
+/* Document 01's file G: F with the forms "b" and "c". Its first 48 bytes with byte 36 made 1 are F. */
 static const uint8_t g_bytes[50] = {
     0xde, 0x12, 0x04, 0x95, 0, 0, 0, 0, 1, 0, 0, 0, 0x1c, 0, 0, 0, 0x24, 0, 0, 0, 0, 0, 0, 0, 0x2c, 0, 0, 0,
     1, 0, 0, 0, 0x2c, 0, 0, 0, 3, 0, 0, 0, 0x2e, 0, 0, 0, 0x61, 0, 0x62, 0, 0x63, 0,
@@ -56,10 +56,10 @@ static void loads_and_refusals(void)
     uint8_t *f = copy(48);
     f[36] = 1;
     CHECK(gr_load(f, 48, NULL, &r) == GR_OK);
-    CHECK(r.head.length == 48 && r.words.count == 1 && r.words.originals == 28 && r.words.translations == 36);
-    CHECK(r.words.big == 0 && r.head.nodes == 1 && r.head.root == 0);
+    CHECK(r.head.length == 48 && r.head.count == 1 && r.head.originals == 28 && r.head.translations == 36);
+    CHECK(r.head.big == 0 && r.head.nodes == 1 && r.head.root == 0);
     CHECK(gr_load(f, 47, NULL, &r) == GR_EOF);
-    CHECK(r.head.length == 0 && r.words.count == 0 && r.head.nodes == 1 && r.head.root == 0);
+    CHECK(r.head.length == 0 && r.head.count == 0 && r.head.nodes == 1 && r.head.root == 0);
     CHECK(gr_load(NULL, 0, NULL, &r) == GR_EOF);
     CHECK(gr_load(f, 48, with("", GR_STANDARD), &r) == GR_PLURAL_PARSING);
     CHECK(gr_load(f, 48, with("+7", GR_STANDARD), &r) == GR_PLURAL_PARSING);
@@ -82,7 +82,7 @@ static int at(const uint8_t *f, size_t len, const gr_options *o, uint32_t number
     return l.number == number && l.side == side && l.entered == entered && l.entry == entry && gr_load(f, len, o, &r) == number;
 }
 
-static void fields(void)
+static void places(void)
 {
     uint8_t *f = copy(48);
     f[36] = 1;
@@ -195,7 +195,7 @@ static void lookups(void)
     CHECK(is(gr_ngettext(g, 50, &r, "z", "zs", 2), 0, "zs"));
     CHECK(is(gr_npgettext(g, 50, &r, "x", "a", "as", 2), 0, "as"));
     gr_answer a =
-        gettext_c_ngettext(g, 50, &r.head, &r.words, r.codes, r.fields, r.values, 0, (const uint8_t *)"", 0, (const uint8_t *)"a", 1, 7);
+        gettext_c_ngettext(g, 50, &r.head, r.codes, r.places, r.values, 0, (const uint8_t *)"", 0, (const uint8_t *)"a", 1, 7);
     CHECK(a.number == 0 && a.which == GR_SEGMENT && a.entry == 0 && a.form == 1 && a.start == 48 && a.len == 1);
     CHECK(gr_load(g, 50, with("1%n", GR_STANDARD), &r) == GR_OK);
     CHECK(is(gr_ngettext(g, 50, &r, "a", "as", 0), GR_ZERO_MODULUS, "as"));
@@ -224,15 +224,15 @@ static void altered_records(void)
     CHECK(is(gr_ngettext(g, 50, &r, "a", "as", 2), GR_BAD_RECORD, "as"));
     /* a count that no file has: what lies outside the file is no entry */
     CHECK(gr_load(g, 50, with(NULL, GR_STANDARD), &r) == GR_OK);
-    r.words.count = UINT32_MAX;
+    r.head.count = SIZE_MAX;
     CHECK(is(gr_ngettext(g, 50, &r, "a", "as", 2), 0, "c"));
-    r.words.translations = UINT32_MAX;
+    r.head.translations = SIZE_MAX;
     CHECK(is(gr_ngettext(g, 50, &r, "a", "as", 2), 0, "as"));
-    r.words.originals = UINT32_MAX - 7;
+    r.head.originals = SIZE_MAX - 7;
     CHECK(is(gr_gettext(g, 50, &r, "a"), 0, "a"));
     /* any number but 0 is yes: the words read the other way round name nothing in this file */
     CHECK(gr_load(g, 50, with(NULL, GR_STANDARD), &r) == GR_OK);
-    r.words.big = 256;
+    r.head.big = 256;
     CHECK(is(gr_gettext(g, 50, &r, "a"), 0, "a"));
     free(g);
 }
@@ -288,7 +288,7 @@ static void indexes(void)
     CHECK(gr_slots(&zero) == 1);
     CHECK(gr_index(NULL, 0, &zero, slots, 0) == GR_INDEX_ROOM);
     CHECK(gr_index(NULL, 0, &zero, slots, 1) == GR_OK && slots[0] == 0);
-    zero.words.count = UINT32_MAX;
+    zero.head.count = SIZE_MAX;
     CHECK(gr_slots(&zero) == (size_t)1 << 33);
     CHECK(gr_index(NULL, 0, &zero, slots, 3) == GR_INDEX_ROOM);
     free(slots);
@@ -316,7 +316,7 @@ static void rest(void)
     uint8_t *g = copy(50);
     gr_record r;
     gr_empty(&r);
-    CHECK(r.words.count == 0 && r.head.length == 0 && r.head.nodes == 1);
+    CHECK(r.head.count == 0 && r.head.length == 0 && r.head.nodes == 1);
     CHECK(is(gr_gettext(NULL, 0, &r, "a"), 0, "a"));
     CHECK(is(gr_ngettext(NULL, 0, &r, "a", "as", 2), 0, "as"));
     CHECK(is(gr_gettext(g, 50, &r, "a"), GR_BAD_RECORD, "a"));
@@ -471,7 +471,7 @@ int main(void)
     options_and_names();
     longest_rules();
     loads_and_refusals();
-    fields();
+    places();
     counts_of_forms();
     lookups();
     altered_records();

@@ -1,11 +1,10 @@
-// The count of forms: a plain model of SPEC 3.8 and 5.3. Headers made of pieces that give a count, nearly give one or take no part
+// The count of forms: a plain model of the words of document 02 f. Headers made of pieces that give a count, nearly give one or take no part
 // in it are loaded in both readings, with a forced rule and without, with the demand for a fit and without; and of real catalogs it is told
 // how many carry a count, how many load under the demand, and which rules do not fit.
+use crate::altered::range;
+use crate::compare::{field, header_of, rule_of, six, Oracle};
 use crate::make::{self, Entry, COUNTS};
-use crate::model::{field, header_of, rule_of, six};
-use crate::oracle::Oracle;
 use crate::rattle::Ours;
-use crate::record::range;
 use crate::rng::Rng;
 use std::collections::BTreeMap;
 

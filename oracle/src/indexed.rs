@@ -1,9 +1,9 @@
-// The index of SPEC 10: the slots that building leaves, and lookups in slots that were altered, are held to a model in
+// The index of document 02, request d: the slots that building leaves, and lookups in slots that were altered, are held to a model in
 // plain Rust. That a lookup in built slots answers as the scan is compared in `Ours`.
+use crate::altered::{answer, entry, low};
+use crate::compare::{hex, Oracle};
 use crate::make;
-use crate::oracle::{hex, Oracle};
 use crate::rattle::{Ours, Record};
-use crate::record::{answer, entry};
 use crate::rng::Rng;
 
 fn used(count: usize) -> usize {
@@ -19,12 +19,12 @@ fn stop(file: &[u8], r: &Record, slots: &[u32], key: &[u8]) -> Option<usize> {
     let start = hash(key) as usize % slots.len();
     (0..slots.len()).map(|k| (start + k) % slots.len()).find(|&p| match slots[p] as usize {
         0 => true,
-        x => x <= r.words.count as usize && entry(file, r, x - 1).map_or(false, |found| found.0 == key),
+        x => x <= low(r.head.count) && entry(file, r, x - 1).map_or(false, |found| found.0 == key),
     })
 }
 
 fn built(file: &[u8], r: &Record) -> Vec<u32> {
-    let count = r.words.count as usize;
+    let count = low(r.head.count);
     let mut slots = vec![0; used(count)];
     for i in 0..count {
         if let Some((key, _, _)) = entry(file, r, i) {
@@ -39,7 +39,7 @@ impl Oracle {
     // Builds an index in slots that hold something already: too few at times, enough, or more. The slots where it is built.
     pub fn build<'a>(&mut self, rng: &mut Rng, file: &[u8], ours: &Ours<'a>) -> Result<Option<&'a [u32]>, String> {
         let r = ours.catalog;
-        let need = used(r.words.count as usize);
+        let need = used(low(r.head.count));
         if ours.slots() != need {
             return Err(format!("{} slots, by the model {need}", ours.slots()));
         }
@@ -70,7 +70,7 @@ impl Oracle {
     // Some slots made others, and what lookups find then.
     pub fn altered_slots(&mut self, rng: &mut Rng, file: &[u8], ours: &Ours, keys: &[Vec<u8>]) -> Result<(), String> {
         let r = ours.catalog;
-        let count = r.words.count as usize;
+        let count = low(r.head.count);
         let need = used(count);
         let mut slots = match ours.slots {
             Some(slots) => slots.to_vec(),

@@ -1,11 +1,17 @@
-// Where a load failed: a plain model of SPEC 2.1. It
+// Where a load failed: a plain model of the words of document 02 a, "each stage that refuses shall also name the entry index and the side". It
 // walks the stages of a load and answers the number, the index and the side of the first test that fails. Whether a rule's text has a
 // reading it takes from the number, which is held to the crate: 6 and 8 come from a rule alone, and no load reads two.
+use crate::compare::{count, field, is_utf8_label, order, rule_of, string};
 use crate::make;
-use crate::model::{count, field, is_utf8_label, order, rule_of, string};
-use crate::oracle::Oracle;
-use crate::rattle::{Ours, Told};
 use std::str::from_utf8;
+
+// The number, the entry's index and the side's number, 0 being none.
+#[derive(Clone, Copy, Debug, PartialEq)]
+pub struct Told {
+    pub number: u32,
+    pub entry: Option<usize>,
+    pub side: u32,
+}
 
 const ORIGINAL: u32 = 1;
 const TRANSLATION: u32 = 2;
@@ -13,7 +19,7 @@ const HEADER: u32 = 3;
 const RULE: u32 = 4;
 
 // How a load of this file ends, under a forced rule or none; `number` is what it was told to be.
-fn told(file: &[u8], forced: bool, utf8: bool, number: u32) -> Told {
+pub fn told(file: &[u8], forced: bool, utf8: bool, number: u32) -> Told {
     let of_rule = number == 6 || number == 8;
     if forced && of_rule {
         return Told { number, entry: None, side: RULE };
@@ -67,16 +73,4 @@ fn original(string: Option<&[u8]>, i: usize) -> Result<bool, u32> {
         return Err(5);
     }
     Ok(end == 0)
-}
-
-impl Oracle {
-    // A load ends with the number and at the place that the words give.
-    pub fn located(&mut self, bytes: &[u8], ours: &Ours, forced: bool, utf8: bool) -> Result<(), String> {
-        let told = told(bytes, forced, utf8, ours.number);
-        if ours.told() != told {
-            return Err(format!("{:?}, by the words {told:?}", ours.told()));
-        }
-        self.stats.places[told.side as usize] += (told.number != 0) as u64;
-        Ok(())
-    }
 }

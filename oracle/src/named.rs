@@ -1,8 +1,8 @@
-// Cases chosen by hand, one for each kind of rule and of file that SPEC tells apart.
+// Cases chosen by hand, one for each kind of rule and of file that document 01 tells apart.
 use crate::make::{plain, Entry};
 
 pub const RULES: [&[u8]; 53] = [
-    // those of SPEC 17.1
+    // the starred ones
     b"n%10%3",
     b"n>1 == 0",
     b"n==1 && 1 ? 2 : 3",

@@ -1,5 +1,6 @@
 // The port's static library, and memory to lend it: everything that is lent lies in pages that can only be read, between two pages
 // that cannot be touched, so that a write, and a read of one byte past the end (or before the start), ends the run.
+use crate::located::Told;
 use std::ffi::{c_char, c_int, c_long, c_uint, c_void};
 
 // The declarations are the Rust host's own.
@@ -67,14 +68,6 @@ pub struct Ours<'a> {
     pub forms: Option<u64>,
     pub catalog: &'a Record,
     pub slots: Option<&'a [u32]>,
-}
-
-// How a load ended: the number, the entry's index and the side's number, 0 being none.
-#[derive(Clone, Copy, Debug, PartialEq)]
-pub struct Told {
-    pub number: u32,
-    pub entry: Option<usize>,
-    pub side: u32,
 }
 
 impl Lent {
@@ -269,21 +262,21 @@ impl Node {
 
 impl Record {
     pub fn same(&self, other: &Record) -> bool {
-        self.head == other.head && self.words == other.words && self.same_rule(other)
+        self.head == other.head && self.same_rule(other)
     }
 
     pub fn same_rule(&self, other: &Record) -> bool {
         self.head.nodes == other.head.nodes
             && self.head.root == other.head.root
             && self.codes == other.codes
-            && self.fields == other.fields
+            && self.places == other.places
             && self.values == other.values
     }
 
-    // The node at a place; none where its code is not listed (SPEC 8.2).
+    // The node at a place; none where its code is not one of document 01's record.
     pub fn node(&self, at: usize) -> Option<Node> {
         let (code, value) = (self.codes[at], Part::Integer(self.values[at]));
-        let field = |j| self.fields[2 * at + j];
+        let field = |j| self.places[2 * at + j];
         let (small, before) = (Part::Integer(field(0) as u64), Part::At(at.wrapping_sub(1)));
         let (x, y) = (Part::At(field(0) as usize), Part::At(field(1) as usize));
         let op = |first: u8| (code - first) as usize;

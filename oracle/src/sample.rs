@@ -1,4 +1,4 @@
-// A fixed sample of answers, as the data that the Rattle program test_replay reads: of the crate where it has one, of SPEC
+// A fixed sample of answers, as the data that the Rattle program test_replay reads: of the crate where it has one, of document 01
 // where it has none (what a panic is answered with, rules over 512 bytes, a record and bytes that do not belong together), and of this port
 // itself for the Standard reading, which oracle/standard.py holds to Python's reader of the same grammar.
 //
@@ -10,13 +10,12 @@
 //     "plural"), the count in eight bytes, the lengths of context, id and text in one byte each, and these three
 //   kind 2, a rule: 2, origin, flags (2 Standard), number, the rule's length in two bytes, the rule, and where it has a reading its forms at
 //     the counts below, one byte each: the form, 64 for any above 63, 255 for a remainder by zero
-// The origin is c (the crate), d (SPEC) or s (Standard).
+// The origin is c (the crate), d (document 01) or s (Standard).
+use crate::compare::{count, key, quietly, rule_file, theirs, trimmed, Theirs};
 use crate::make::{self, Entry, COUNTS, KNOWN};
-use crate::model::{count, key, trimmed};
 use crate::named;
 use crate::rattle::{Lent, Ours};
 use crate::rng::Rng;
-use crate::theirs::{quietly, rule_file, theirs, Theirs};
 use std::collections::HashSet;
 
 const PART: usize = 65536;
@@ -273,7 +272,7 @@ pub fn write() -> Vec<u8> {
     let mut s = Sample { lent: Lent::new(), out: Vec::new(), cases: [0; 3], numbers: [0; 12], answers: 0, seen: HashSet::new() };
     let mut rng = Rng::new(9, 9);
 
-    // the file F of SPEC 17 and its variants
+    // document 01's file F and its variants
     let f = make::plain(false, &[Entry { id: b"a".to_vec(), segments: vec![b"b".to_vec()], ..Entry::default() }]);
     s.file(&mut rng, &f, &f, 0, 4);
     for cut in [0, 3, 4, 27, 28, 35, 36, 43, 44, 45, 46, 47] {
@@ -414,7 +413,7 @@ pub fn write() -> Vec<u8> {
 
     let [by_crate, by_document, standard] = s.cases;
     eprintln!(
-        "sample: {} cases (the crate {by_crate}, SPEC {by_document}, Standard {standard}), {} answers, {} bytes; by number {:?}",
+        "sample: {} cases (the crate {by_crate}, document 01 {by_document}, Standard {standard}), {} answers, {} bytes; by number {:?}",
         by_crate + by_document + standard,
         s.answers,
         s.out.len(),

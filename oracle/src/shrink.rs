@@ -1,9 +1,6 @@
 // Makes an input that differs smaller, as long as it still differs.
-use crate::explained::NOT_GIVEN;
-use crate::lookups::Depth;
+use crate::compare::{count, hex, Depth, Oracle, Stats, NOT_GIVEN};
 use crate::make::{self, Entry};
-use crate::model::count;
-use crate::oracle::{hex, Oracle, Stats};
 use crate::rng::Rng;
 
 // Takes parts away from a text while the test still fails on it: runs of bytes, and where it is short, pairs (as of brackets).

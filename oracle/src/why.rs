@@ -1,8 +1,8 @@
-// Why a plural lookup answers as it does, held to a model in plain Rust of SPEC 9.7: the first reason of the six, and what it
+// Why a plural lookup answers as it does, held to a model in plain Rust of document 02, request i: the first reason of the six, and what it
 // tells; and its number and text to the lookup's own.
-use crate::oracle::{hex, Oracle};
+use crate::altered::{entry, is_tree, last};
+use crate::compare::{hex, Oracle};
 use crate::rattle::{Answer, Explained, Node, Ours, Part, Record};
-use crate::record::{entry, is_tree, last};
 
 // The value of the tree at a place, or the place of the node at which evaluation, left operand first, divides by zero.
 fn value(r: &Record, at: usize, n: u64) -> Result<u64, usize> {

@@ -1,7 +1,7 @@
 // What else a record's rule answers, held to models in plain Rust: which forms occur over a span of counts, and its text with all its brackets; and
 // that such a text is the same rule in both readings and in the crate.
+use crate::compare::Oracle;
 use crate::make;
-use crate::oracle::Oracle;
 use crate::rattle::{span, text, Node, Part, Record};
 use crate::rng::Rng;
 

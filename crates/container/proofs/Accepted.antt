@@ -17,7 +17,7 @@ use Rattle.refusal.specs.declared.Error.TheVariants.{NotFit}
 use Rattle.refusal.specs.declared.Where.TheVariants.{File}
 use Rattle.refusal.specs.declared.Outcome.TheVariants as outcome
 use Rattle.rules.specs.Tree.{Tree}
-use Rattle.rules.specs.Nodes.{Nodes}
+use Rattle.rules.specs.Pool.{Pool}
 use Rattle.reading_rule.specs.Plurals.{Parse, rule, norule}
 use Rattle.header_forms.specs.declared.Forms.{Forms}
 use Rattle.container_layout.specs.Mo.{entry, segments}
@@ -38,7 +38,7 @@ use Rattle.container.specs.declared.Options.{Options}
 use Rattle.container.specs.declared.Loading.{Loading}
 
 -- a load that says so was accepted
-pub loaded_accepted : (a : Answer) {Q : Nodes} {r : Loading} → Loads a Q r → r.outcome ≡ outcome.Loaded → a ≡ accepted r.tables (tree_in a) r.forms
+pub loaded_accepted : (a : Answer) {Q : Pool} {r : Loading} → Loads a Q r → r.outcome ≡ outcome.Loaded → a ≡ accepted r.tables (tree_in a) r.forms
 loaded_accepted (accepted t u n) h e = rw (h.tables_are, h.forms_are)
 loaded_accepted (refused x) h e = absurd (let p = h.outcome_is in let z : ◌≡◌ {A = ℕ} 0 1 = cc in omega arith)
 

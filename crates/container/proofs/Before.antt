@@ -57,7 +57,7 @@ by_cases : (b : Bool) (x y : Parse) → forget (elim b [ true ↦ x | false ↦ 
 by_cases true x y = refl
 by_cases false x y = refl
 
-made_same : (w : Where) (o : tree.Result) → forget (plurals.made w o) ≡ made o
+made_same : (w : Where) (o : tree.Reading) → forget (plurals.made w o) ≡ made o
 unfolding plurals.made
 made_same w (tree.tree t) = refl
 made_same w tree.none = refl

@@ -1,5 +1,5 @@
--- The files F and G of SPEC 17 and their variants, computed from the definition; the cases of SPEC 17.1 are in the table of crate `starred`.
--- Assumes nothing.
+-- Files of document 01, "Files and rules to try", computed from the definition; those that it stars are in the table of crate `starred`. Assumes
+-- nothing.
 use Prim.Native.Nat.{ℕ, zero, suc}
 use mathlib.Core.Path.{◌≡◌, refl}
 use mathlib.Core.Bool.{Bool, true, false}

@@ -11,7 +11,7 @@ use Rattle.refusal.specs.declared.Where.TheVariants.{File}
 use Rattle.refusal.specs.declared.Outcome.{Outcome}
 use Rattle.refusal.specs.declared.Outcome.TheVariants as outcome
 use Rattle.rules.specs.Tree.{Tree}
-use Rattle.rules.specs.Nodes.{Nodes}
+use Rattle.rules.specs.Pool.{Pool}
 use Rattle.rules.specs.Pack.{packed_size}
 use Rattle.rules.proofs.Stored.{packed_pos}
 use Rattle.reading_rule.specs.Plurals as plurals
@@ -42,7 +42,7 @@ use Rattle.container.specs.declared.Options.{Options}
 use Rattle.container.specs.declared.Loading.{Loading}
 
 -- a refusal, as an answer
-pub refusing : (a : Answer) {x : Refusal} {b : Outcome} {Q : Nodes} {r : Loading} → a ≡ refused x → b ≡ outcome.Refused x → Empties b Q r → Loads a Q r
+pub refusing : (a : Answer) {x : Refusal} {b : Outcome} {Q : Pool} {r : Loading} → a ≡ refused x → b ≡ outcome.Refused x → Empties b Q r → Loads a Q r
 refusing a e f g = rw e (record { outcome_is = g.outcome_is ∙ f; tables_are = g.tables_are; nodes_are = g.nodes_are; rule_is = g.rule_is; forms_are = g.forms_are })
 
 -- a stage that handed on its rule, and one that did not
@@ -115,8 +115,8 @@ module _ (o : Options) (s : List ℕ) (t : Tables) where
   all_entries r = all_from t.count r
 
 -- the load, stage by stage: P are the arrays after the forced rule
-module _ (o : Options) (f s : List ℕ) {forced : Parsed} {P : Nodes} (g : Parses (forced_rule o.forced o.reading f) P forced) where
-  pub forced_refused : {e : Refusal} {Q : Nodes} {r : Loading} → forced.outcome ≡ outcome.Refused e → Empties forced.outcome Q r → Loads (opened o f s) Q r
+module _ (o : Options) (f s : List ℕ) {forced : Parsed} {P : Pool} (g : Parses (forced_rule o.forced o.reading f) P forced) where
+  pub forced_refused : {e : Refusal} {Q : Pool} {r : Loading} → forced.outcome ≡ outcome.Refused e → Empties forced.outcome Q r → Loads (opened o f s) Q r
   unfolding opened
   forced_refused {e} q w =
       refusing (opened o f s) (ap (load_with o s) (stopped (forced_rule o.forced o.reading f) (sym g.outcome ∙ q))) q w
@@ -132,7 +132,7 @@ module _ (o : Options) (f s : List ℕ) {forced : Parsed} {P : Nodes} (g : Parse
     unfolding opened
     at_head e = ap (load_with o s) so_far ∙ ap (catalog o s before) (sym e)
 
-    pub head_refused : {h : Head} {e : Error} {b : Outcome} {Q : Nodes} {r : Loading} → h ≡ head_of s → h ≡ head.Refused e → b ≡ head_outcome h → Empties b Q r → Loads (opened o f s) Q r
+    pub head_refused : {h : Head} {e : Error} {b : Outcome} {Q : Pool} {r : Loading} → h ≡ head_of s → h ≡ head.Refused e → b ≡ head_outcome h → Empties b Q r → Loads (opened o f s) Q r
     head_refused {h} {e} q w v z = refusing (opened o f s) (at_head q ∙ ap (catalog o s before) w) (v ∙ headless h w) z
 
     module _ {t : Tables} {h : Head} (q : h ≡ head_of s) (w : h ≡ head.Fields t) {at_first : First} (u : at_first ≡ first_rule o.forced o.utf8 s t) where
@@ -147,11 +147,11 @@ module _ (o : Options) (f s : List ℕ) {forced : Parsed} {P : Nodes} (g : Parse
           at_head q ∙ ap (catalog o s before) w ∙ ap (answered t (file_forms s t)) (all_entries o s t before)
           ∙ ap (λ (z : First). answered t (file_forms s t) (and_then (rule_in o.reading s before z) (step_of (rest_from s t (t.count - 1) 1)))) (sym u)
 
-      module _ {ruled : Parsed} {Q : Nodes} (c : Chooses o.reading s at_first forced.nodes P Q ruled) where
+      module _ {ruled : Parsed} {Q : Pool} (c : Chooses o.reading s at_first forced.nodes P Q ruled) where
         gives : Parses stage Q ruled
         gives = choosing o.reading s before g.stored g.nodes at_first c
 
-        pub rule_stopped : {e : Refusal} {R : Nodes} {r : Loading} → ruled.outcome ≡ outcome.Refused e → Empties ruled.outcome R r → Loads (opened o f s) R r
+        pub rule_stopped : {e : Refusal} {R : Pool} {r : Loading} → ruled.outcome ≡ outcome.Refused e → Empties ruled.outcome R r → Loads (opened o f s) R r
         rule_stopped {e} i j =
             refusing (opened o f s)
             (at_entries ∙ ap (λ (a : Parse). answered t (file_forms s t) (and_then a (step_of (rest_from s t (t.count - 1) 1)))) (stopped stage (sym gives.outcome ∙ i)))
@@ -164,7 +164,7 @@ module _ (o : Options) (f s : List ℕ) {forced : Parsed} {P : Nodes} (g : Parse
               at_entries ∙ ap (λ (a : Parse). answered t (file_forms s t) (and_then a (step_of (rest_from s t (t.count - 1) 1)))) (went_on stage (sym gives.outcome ∙ i))
               ∙ ap (λ (a : Outcome). answered t (file_forms s t) (step_of a (plurals.tree_in stage))) (sym j)
 
-          pub rest_refused : {e : Refusal} {R : Nodes} {r : Loading} → rest ≡ outcome.Refused e → Empties rest R r → Loads (opened o f s) R r
+          pub rest_refused : {e : Refusal} {R : Pool} {r : Loading} → rest ≡ outcome.Refused e → Empties rest R r → Loads (opened o f s) R r
           rest_refused v z = refusing (opened o f s) (at_rest ∙ ap (λ (a : Outcome). answered t (file_forms s t) (step_of a (plurals.tree_in stage))) v) v z
 
           -- the count beside the rule is the file's

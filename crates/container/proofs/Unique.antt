@@ -8,7 +8,7 @@ use borrow.Fn.Kinds.{ended_of}
 use Rattle.promise.proofs.One.{One, OneLeft}
 use Rattle.refusal.specs.declared.Outcome.{Outcome}
 use Rattle.rules.specs.Tree.{Tree}
-use Rattle.rules.specs.Nodes.{Nodes, nodes_of}
+use Rattle.rules.specs.Pool.{Pool, pool}
 use Rattle.header_forms.specs.declared.Forms.{Forms}
 use Rattle.container_layout.specs.declared.Tables.{Tables}
 use Rattle.container.specs.Catalog.{Answer}
@@ -25,10 +25,10 @@ use Rattle.container.proofs.load_into.Kinds as load-into-kinds
 use Rattle.container.proofs.load.Reads as load
 use Rattle.container.proofs.load.Kinds as load-kinds
 
-abbrev made : Tables → Nodes → ℕ → ℕ → Forms → Record
-made t P k r x = record { tables = t; codes = P.codes; fields = P.fields; values = P.values; nodes = k; root = r; forms = x }
+abbrev made : Tables → Pool → ℕ → ℕ → Forms → Record
+made t P k r x = record { tables = t; codes = P.codes; places = P.places; values = P.values; nodes = k; root = r; forms = x }
 
-same : {t u : Tables} {P Q : Nodes} {j k m n : ℕ} {x y : Forms} → t ≡ u → P ≡ Q → j ≡ k → m ≡ n → x ≡ y → made t P j m x ≡ made u Q k n y
+same : {t u : Tables} {P Q : Pool} {j k m n : ℕ} {x y : Forms} → t ≡ u → P ≡ Q → j ≡ k → m ≡ n → x ≡ y → made t P j m x ≡ made u Q k n y
 same e f g h i = rw (e, f, g, h, i)
 
 pub holds_one : {t : Tables} {r : Tree} {n : Forms} (u v : Record) → Holds t r n u → Holds t r n v → u ≡ v
@@ -45,8 +45,8 @@ told o t k n = record { outcome = o; tables = t; nodes = k; forms = n }
 same_loading : {o p : Outcome} {t u : Tables} {j k : ℕ} {m n : Forms} → o ≡ p → t ≡ u → j ≡ k → m ≡ n → told o t j m ≡ told p u k n
 same_loading e f g h = rw (e, f, g, h)
 
-abbrev empty_left : (κs : Lfts 3) → AtExit (ended_of 3 empty-into-kinds.ps empty-into-kinds.r) κs → Nodes
-empty_left κs x = nodes_of x.1.0.now x.1.1.0.now x.1.1.1.0.now
+abbrev empty_left : (κs : Lfts 3) → AtExit (ended_of 3 empty-into-kinds.ps empty-into-kinds.r) κs → Pool
+empty_left κs x = pool x.1.0.now x.1.1.0.now x.1.1.1.0.now
 
 pub empty_into_one : OneLeft 3 empty-into-kinds.ps empty-into-kinds.r empty-into.Post empty_left
 empty_into_one κs a u v x y p q = (
@@ -54,14 +54,14 @@ empty_into_one κs a u v x y p q = (
   p.rule_is ∙ sym q.rule_is,
 )
 
-pub loads_one : (a : Answer) {P Q : Nodes} (u v : Loading) → Loads a P u → Loads a Q v → (u ≡ v) × (P ≡ Q)
+pub loads_one : (a : Answer) {P Q : Pool} (u v : Loading) → Loads a P u → Loads a Q v → (u ≡ v) × (P ≡ Q)
 loads_one a u v p q = (
   same_loading (p.outcome_is ∙ sym q.outcome_is) (p.tables_are ∙ sym q.tables_are) (p.nodes_are ∙ sym q.nodes_are) (p.forms_are ∙ sym q.forms_are),
   p.rule_is ∙ sym q.rule_is,
 )
 
-abbrev load_left : (κs : Lfts 4) → AtExit (ended_of 4 load-into-kinds.ps load-into-kinds.r) κs → Nodes
-load_left κs x = nodes_of x.1.1.1.0.now x.1.1.1.1.0.now x.1.1.1.1.1.0.now
+abbrev load_left : (κs : Lfts 4) → AtExit (ended_of 4 load-into-kinds.ps load-into-kinds.r) κs → Pool
+load_left κs x = pool x.1.1.1.0.now x.1.1.1.1.0.now x.1.1.1.1.1.0.now
 
 pub load_into_one : OneLeft 4 load-into-kinds.ps load-into-kinds.r load-into.Post load_left
 load_into_one κs a u v x y p q = loads_one _ u v p q

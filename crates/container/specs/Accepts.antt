@@ -27,7 +27,7 @@ use Rattle.container_rule.specs.Rule.{forced_rule, label_ok, segment0}
 use Rattle.container.specs.Catalog.{entry_step, entries_from}
 use Rattle.container.specs.declared.Options.{Options}
 
--- SPEC 3.2 and 3.3, the head: at least 28 bytes, the magic in one byte order, the words at 8, 12 and 16, and both table offsets within the size
+-- 2 and 3. the head: at least 28 bytes, the magic in one byte order, the words at 8, 12 and 16, and both table offsets within the size
 pub record Headed (s : List ℕ) (t : Tables) : Type 0 where
   pub long : 28 ≤ length s
   pub order : order_of s ≡ Big t.big
@@ -35,7 +35,7 @@ pub record Headed (s : List ℕ) (t : Tables) : Type 0 where
   pub originals_in : t.originals ≤ length s
   pub translations_in : t.translations ≤ length s
 
--- SPEC 3.6: h is the header: the id of entry 0 is empty, and h is segment 0 of its translation
+-- 6. h is the header: the id of entry 0 is empty, and h is segment 0 of its translation
 pub record IsHeader (s : List ℕ) (t : Tables) (h : List ℕ) : Type 0 where
   pub some : 0 < t.count
   pub good : Good s t 0
@@ -49,7 +49,7 @@ pub record Fine (o : Options) (h : List ℕ) (p : Stretch) : Type 0 where
   pub fields : metadata h ≡ Fields label p forms
   pub known : (o.utf8 || label_ok h label) ≡ true
 
--- SPEC 3.1 and 3.6, which rule counts: the forced one, else the header's, else the default
+-- 1 and 6. which rule counts: the forced one, else the header's, else the default
 pub data Counts (o : Options) (f s : List ℕ) (t : Tables) (r : Tree) : Type 0 where
   forced : o.forced ≡ true → parsed place_of.Forced o.reading f ≡ rule r → Counts o f s t r
   given : o.forced ≡ false → {h : List ℕ} {start len : ℕ} → IsHeader s t h → Fine o h (stretch.At start len) → parsed in_rule o.reading (take len (drop start h)) ≡ rule r → Counts o f s t r
@@ -73,7 +73,7 @@ pub record Sound (o : Options) (f s : List ℕ) (t : Tables) (r : Tree) (n : For
   pub counts : Counts o f s t r
   pub carries : Carries s t n
 
--- SPEC 3.8: the count is given, and the rule has a range whose highest is below it
+-- 7. the count is given, and the rule has a range whose highest is below it
 pub record Fits (r : Tree) (n : Forms) : Type 0 where
   pub count : ℕ
   pub given : n ≡ Given count

@@ -34,7 +34,7 @@ and_then (hands t) f = f t
 and_then (stops e) f = stops e
 
 -- a rule's text
-abbrev pub made : tree.Result → Stage
+abbrev pub made : tree.Reading → Stage
 made (tree.tree t) = hands t
 made tree.none = stops PluralParsing
 

@@ -25,7 +25,7 @@ abbrev pub and_then : Parse → (Tree → Parse) → Parse
 and_then (rule t) f = f t
 and_then (norule e) f = norule e
 
--- SPEC 3.6: the header, and its rule
+-- 6. the header, and its rule
 unfoldable pub header : Options → List ℕ → Tree → Parse
 unfolding rule_at
 header o h r = rule_in o.reading h r (rule_at o.forced o.utf8 h)
@@ -65,7 +65,7 @@ unfoldable pub opened : Options → List ℕ → List ℕ → Answer
 unfolding entries_from file_forms
 opened o f s = load_with o s (forced_rule o.forced o.reading f)
 
--- SPEC 3.8: last, where the options ask for it, the rule has to fit the count, which has to be given. It is the file's refusal.
+-- 7. last, where the options ask for it: the rule has to fit the count, which has to be given. It is the file's refusal.
 abbrev pub fits : Tree → Forms → Bool
 fits r (Given k) = fits_range (rate_tree r) k
 fits r Absent = false
@@ -83,9 +83,9 @@ load o f s = fitted o.fit (opened o f s)
 abbrev pub no_tables : Tables
 no_tables = record { length = 0; big = false; count = 0; originals = 0; translations = 0 }
 
-abbrev pub tablesIn : Answer → Tables
-tablesIn (accepted t r n) = t
-tablesIn (refused e) = no_tables
+abbrev pub tables_in : Answer → Tables
+tables_in (accepted t r n) = t
+tables_in (refused e) = no_tables
 
 abbrev pub tree_in : Answer → Tree
 tree_in (accepted t r n) = r

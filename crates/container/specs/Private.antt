@@ -4,7 +4,7 @@ use Rattle.refusal.specs.Places.{at}
 use Rattle.refusal.specs.declared.Where.TheVariants.{File}
 use Rattle.refusal.specs.declared.Outcome.{Outcome}
 use Rattle.refusal.specs.declared.Outcome.TheVariants.{Loaded, Refused}
-use Rattle.rules.specs.Nodes.{Nodes}
+use Rattle.rules.specs.Pool.{Pool}
 use Rattle.rules.specs.Answer.{fit_of}
 use Rattle.rules.specs.declared.Fit.{Fit}
 use Rattle.rules.specs.declared.Fit.TheVariants as fit
@@ -23,7 +23,7 @@ is_yes fit.Yes = true
 is_yes fit.No = false
 is_yes fit.NoTree = false
 
-abbrev pub fits_in : Nodes → ℕ → Forms → Bool
+abbrev pub fits_in : Pool → ℕ → Forms → Bool
 fits_in P k (Given n) = is_yes (fit_of P k (k - 1) n)
 fits_in P k Absent = false
 

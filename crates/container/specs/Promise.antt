@@ -3,12 +3,12 @@ use Rattle.std.specs.Prelude.{ℕ, ◌-◌, ◌≡◌}
 use Rattle.refusal.specs.declared.Outcome.{Outcome}
 use Rattle.refusal.specs.declared.Outcome.TheVariants.{Loaded, Refused}
 use Rattle.rules.specs.Tree.{Tree, default_tree}
-use Rattle.rules.specs.Nodes.{Nodes, nodes_of}
+use Rattle.rules.specs.Pool.{Pool, pool}
 use Rattle.rules.specs.Pack.{packed, packed_size}
 use Rattle.header_forms.specs.declared.Forms.{Forms}
 use Rattle.header_forms.specs.declared.Forms.TheVariants.{Absent}
 use Rattle.container_layout.specs.declared.Tables.{Tables}
-use Rattle.container.specs.Catalog.{Answer, accepted, refused, no_tables, tablesIn, tree_in, forms_in}
+use Rattle.container.specs.Catalog.{Answer, accepted, refused, no_tables, tables_in, tree_in, forms_in}
 use Rattle.container.specs.declared.Record.{Record}
 use Rattle.container.specs.declared.Loading.{Loading}
 use Rattle.container.specs.declared.Loaded as loaded
@@ -18,7 +18,7 @@ outcome_of (accepted t r n) = Loaded
 outcome_of (refused e) = Refused e
 
 -- the empty catalog, with that outcome; Q are the arrays at exit
-pub record Empties (b : Outcome) (Q : Nodes) (r : Loading) : Type 0 where
+pub record Empties (b : Outcome) (Q : Pool) (r : Loading) : Type 0 where
   pub outcome_is : r.outcome ≡ b
   pub tables_are : r.tables ≡ no_tables
   pub nodes_are : r.nodes ≡ packed_size default_tree
@@ -26,9 +26,9 @@ pub record Empties (b : Outcome) (Q : Nodes) (r : Loading) : Type 0 where
   pub forms_are : r.forms ≡ Absent
 
 -- what a load answers
-pub record Loads (a : Answer) (Q : Nodes) (r : Loading) : Type 0 where
+pub record Loads (a : Answer) (Q : Pool) (r : Loading) : Type 0 where
   pub outcome_is : r.outcome ≡ outcome_of a
-  pub tables_are : r.tables ≡ tablesIn a
+  pub tables_are : r.tables ≡ tables_in a
   pub nodes_are : r.nodes ≡ packed_size (tree_in a)
   pub rule_is : Q ≡ packed (tree_in a)
   pub forms_are : r.forms ≡ forms_in a
@@ -36,7 +36,7 @@ pub record Loads (a : Answer) (Q : Nodes) (r : Loading) : Type 0 where
 -- a record of those tables, that rule, whose root is its last node, and that count
 pub record Holds (t : Tables) (tree : Tree) (n : Forms) (r : Record) : Type 0 where
   pub tables_are : r.tables ≡ t
-  pub rule_is : nodes_of r.codes r.fields r.values ≡ packed tree
+  pub rule_is : pool r.codes r.places r.values ≡ packed tree
   pub nodes_are : r.nodes ≡ packed_size tree
   pub root_is : r.root ≡ packed_size tree - 1
   pub forms_are : r.forms ≡ n
@@ -46,4 +46,4 @@ Empty r = Holds no_tables default_tree Absent r
 
 pub record Opens (a : Answer) (r : loaded.Loaded) : Type 0 where
   pub outcome_is : r.outcome ≡ outcome_of a
-  pub holds : Holds (tablesIn a) (tree_in a) (forms_in a) r.record
+  pub holds : Holds (tables_in a) (tree_in a) (forms_in a) r.record

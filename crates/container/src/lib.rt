@@ -1,7 +1,7 @@
 // Loading a catalog where it lies: a record, or the refusal. A port of parser.rs: `parse_catalog`. Stages answer enums; the map of messages
 // is the file itself, and the resolver is the rule's nodes, which go into arrays that the caller lends, so that they are written once.
 ghost use Rattle.std.specs.Prelude.{◌≡◌, ◌-◌, ◌<◌};
-ghost use Rattle.rules.specs.Nodes.{nodes_of};
+ghost use Rattle.rules.specs.Pool.{pool};
 ghost use Rattle.container.specs.Catalog.{no_tables, opened, load};
 ghost use Rattle.container.specs.Promise.{Empty, Empties, Loads, Opens};
 ghost use Rattle.container.specs.Private.{is_yes, fits_in, head_outcome, read_outcome, rest_from};
@@ -28,7 +28,7 @@ pub struct Options {
 pub struct Record {
     pub tables: Tables,
     pub codes: [u8; 512],
-    pub fields: [u16; 1024],
+    pub places: [u16; 1024],
     pub values: [u64; 512],
     pub nodes: usize,
     pub root: usize,
@@ -68,13 +68,13 @@ pub fn empty() -> Record
     ensures { Empty result }
 {
     let mut codes = [0u8; 512];
-    let mut fields = [0u16; 1024];
+    let mut places = [0u16; 1024];
     let mut values = [0u64; 512];
-    let nodes = rules::put_default(&mut codes, &mut fields, &mut values);
+    let nodes = rules::put_default(&mut codes, &mut places, &mut values);
     Record {
         tables: no_tables(),
         codes,
-        fields,
+        places,
         values,
         nodes,
         root: nodes - 1,
@@ -88,7 +88,7 @@ fn entry_outcome(entry: Read) -> Outcome
 {
     match entry {
         Read::Message => Outcome::Loaded,
-        Read::Header { start, len } => Outcome::Loaded,
+        Read::Header(start, len) => Outcome::Loaded,
         Read::Refused(e) => Outcome::Refused(e),
     }
 }
@@ -113,12 +113,12 @@ fn parse_rest(file: &[u8], t: Tables) -> Outcome
 pub fn empty_into(
     outcome: Outcome,
     codes: &mut [u8; 512],
-    fields: &mut [u16; 1024],
+    places: &mut [u16; 1024],
     values: &mut [u64; 512],
 ) -> Loading
-    ensures { Empties outcome (nodes_of codes.new fields.new values.new) result }
+    ensures { Empties outcome (pool codes.new places.new values.new) result }
 {
-    let nodes = rules::put_default(codes, fields, values);
+    let nodes = rules::put_default(codes, places, values);
     Loading {
         outcome,
         tables: no_tables(),
@@ -142,30 +142,30 @@ fn open_into<'a>(
     rule: &'a [u8],
     options: Options,
     codes: &mut [u8; 512],
-    fields: &mut [u16; 1024],
+    places: &mut [u16; 1024],
     values: &mut [u64; 512],
 ) -> Loading
-    ensures { Loads (opened options rule.now file.now) (nodes_of codes.new fields.new values.new) result }
+    ensures { Loads (opened options rule.now file.now) (pool codes.new places.new values.new) result }
 {
     let reading = options.reading;
-    let forced = container_rule::parse_forced(rule, options.forced, reading, codes, fields, values);
+    let forced = container_rule::parse_forced(rule, options.forced, reading, codes, places, values);
     let before = forced.outcome;
     let Outcome::Loaded = before else {
-        return empty_into(before, codes, fields, values);
+        return empty_into(before, codes, places, values);
     };
     let head = container_head::parse_head(file);
     let Head::Fields(t) = head else {
-        return empty_into(head_outcome(head), codes, fields, values);
+        return empty_into(head_outcome(head), codes, places, values);
     };
     let first = container_rule::parse_first(file, t, options.forced, options.utf8);
-    let ruled = container_rule::rule_of(file, first, forced.nodes, reading, codes, fields, values);
+    let ruled = container_rule::rule_of(file, first, forced.nodes, reading, codes, places, values);
     let so_far = ruled.outcome;
     let Outcome::Loaded = so_far else {
-        return empty_into(so_far, codes, fields, values);
+        return empty_into(so_far, codes, places, values);
     };
     let rest = parse_rest(file, t);
     let Outcome::Loaded = rest else {
-        return empty_into(rest, codes, fields, values);
+        return empty_into(rest, codes, places, values);
     };
     Loading {
         outcome: Outcome::Loaded,
@@ -188,16 +188,16 @@ fn is_yes(fit: Fit) -> bool
 // Whether a count is given, and the rule in the arrays, of so many nodes, fits it.
 fn fits<'a>(
     codes: &'a [u8; 512],
-    fields: &'a [u16; 1024],
+    places: &'a [u16; 1024],
     values: &'a [u64; 512],
     nodes: usize,
     forms: Forms,
 ) -> bool
     requires { 0 < nodes }
-    ensures { result ≡ fits_in (nodes_of codes.now fields.now values.now) nodes forms }
+    ensures { result ≡ fits_in (pool codes.now places.now values.now) nodes forms }
 {
     match forms {
-        Forms::Given(k) => is_yes(rules_range::fits(codes, fields, values, nodes, nodes - 1, k)),
+        Forms::Given(k) => is_yes(rules_range::fits(codes, places, values, nodes, nodes - 1, k)),
         Forms::Absent => false,
     }
 }
@@ -209,12 +209,12 @@ pub fn load_into<'a>(
     rule: &'a [u8],
     options: Options,
     codes: &mut [u8; 512],
-    fields: &mut [u16; 1024],
+    places: &mut [u16; 1024],
     values: &mut [u64; 512],
 ) -> Loading
-    ensures { Loads (load options rule.now file.now) (nodes_of codes.new fields.new values.new) result }
+    ensures { Loads (load options rule.now file.now) (pool codes.new places.new values.new) result }
 {
-    let loading = open_into(file, rule, options, codes, fields, values);
+    let loading = open_into(file, rule, options, codes, places, values);
     if !options.fit {
         return loading;
     }
@@ -224,11 +224,11 @@ pub fn load_into<'a>(
     };
     let nodes = loading.nodes;
     let forms = loading.forms;
-    if fits(codes, fields, values, nodes, forms) {
+    if fits(codes, places, values, nodes, forms) {
         return loading;
     }
     let refused = Outcome::Refused(refusal::at(Where::File, Error::NotFit));
-    empty_into(refused, codes, fields, values)
+    empty_into(refused, codes, places, values)
 }
 
 // The same as a record by value. The root is the rule's last node.
@@ -236,9 +236,9 @@ pub fn load<'a>(file: &'a [u8], rule: &'a [u8], options: Options) -> Loaded
     ensures { Opens (load options rule.now file.now) result }
 {
     let mut codes = [0u8; 512];
-    let mut fields = [0u16; 1024];
+    let mut places = [0u16; 1024];
     let mut values = [0u64; 512];
-    let loading = load_into(file, rule, options, &mut codes, &mut fields, &mut values);
+    let loading = load_into(file, rule, options, &mut codes, &mut places, &mut values);
     let nodes = loading.nodes;
     let tables = loading.tables;
     let outcome = loading.outcome;
@@ -248,7 +248,7 @@ pub fn load<'a>(file: &'a [u8], rule: &'a [u8], options: Options) -> Loaded
         record: Record {
             tables,
             codes,
-            fields,
+            places,
             values,
             nodes,
             root: nodes - 1,

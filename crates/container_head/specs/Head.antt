@@ -8,7 +8,7 @@ use Rattle.container_head.specs.declared.Order.TheVariants as order
 use Rattle.container_head.specs.declared.Head.{Head}
 use Rattle.container_head.specs.declared.Head.TheVariants as head
 
--- SPEC 3.2: the magic number, which the file begins with in its own byte order
+-- 2. the magic number, which the file begins with in its own byte order
 abbrev pub magic : ℕ
 magic = 0x950412de
 
@@ -20,7 +20,7 @@ order_of s =
       | false ↦ elim (eqb (word true s 0) magic) [ true ↦ order.Big true | false ↦ order.Unknown ]
     ]
 
--- SPEC 3.3: the count and the tables
+-- 3. the count and the tables
 abbrev pub tables : List ℕ → Bool → Tables
 tables s b = record { length = length s; big = b; count = word b s 8; originals = word b s 12; translations = word b s 16 }
 

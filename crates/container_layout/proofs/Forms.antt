@@ -5,15 +5,15 @@ use mathlib.Core.List.{List, [], ◌∷◌}
 use native.Mathlib.Omega.{arith}
 use lib.ListN.{length, get_or, take, drop, length-drop}
 use lib.Seq.{length-take-le}
-use lib.Dec.{leb, ltb}
+use lib.Dec.{ltb}
 use borrow.Author.Tests.{le-leb, ltb-true, ltb-false}
 use Rattle.text.specs.Bytes.{place}
 use Rattle.text.specs.Cut.{cut}
-use Rattle.text.proofs.Tests.{taken, left, by_test}
+use Rattle.text.proofs.Tests.{taken, by_test}
 use Rattle.text.proofs.Cuts.{rest_last, rest_more, rest_bound}
 use Rattle.text.proofs.Parts.{part_of_part}
 use Rattle.container_layout.specs.Mo.{piece_at, segment, segments}
-use Rattle.text.specs.declared.Stretch.TheVariants.{At, Absent}
+use Rattle.text.specs.declared.Stretch.TheVariants.{At}
 
 -- the k-th of the pieces ps of s, the first of which starts at from
 pub record Holds (s : List ℕ) (from k : ℕ) (ps : List (List ℕ)) : Type 0 where
@@ -76,16 +76,3 @@ module _ (s : List ℕ) (start len : ℕ) (h : start + len ≤ length s) where
   pub segment_is : (form : ℕ) → segment s start len form ≡ piece_at start form (segments s start len)
   unfolding segment
   segment_is form = taken _ _ (le-leb (start + len) (length s) h)
-
--- there is no piece past the last
-no_piece : (at k : ℕ) (ps : List (List ℕ)) → length ps ≤ k → piece_at at k ps ≡ Absent
-unfolding piece_at
-no_piece at k [] h = refl
-no_piece at zero (p ∷ ps) h = absurd (omega arith)
-no_piece at (suc k) (p ∷ ps) h = no_piece (at + length p + 1) k ps (omega arith)
-
-pub no_segment : (s : List ℕ) (start len form : ℕ) → length (segments s start len) ≤ form → segment s start len form ≡ Absent
-unfolding segment
-no_segment s start len form h =
-    by_test (segment s start len form ≡ Absent) (leb (start + len) (length s))
-    (λ e. taken _ _ e ∙ no_piece start form (segments s start len) h) (λ e. left _ _ e)

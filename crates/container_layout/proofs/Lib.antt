@@ -5,5 +5,3 @@ pub mod Segments
 pub mod Entries
 pub mod Keys
 pub mod Unique
-pub mod Made
-pub mod Stale

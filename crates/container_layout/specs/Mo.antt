@@ -1,6 +1,6 @@
 -- The layout of an MO file. GNU gettext manual, 10.3, "The Format of GNU MO Files", and SPEC 3.4 and 3.5.
 -- A file is a list of bytes. A part of it is told by its place: where it starts, and how long it is. Sums are taken without bound.
-use Rattle.std.specs.Prelude.{ℕ, zero, suc, ◌+◌, ◌*◌, ◌-◌, Bool, true, false, not, List, [], ◌∷◌, length, take, drop, get_or, eqb, leb, ltb}
+use Rattle.std.specs.Prelude.{ℕ, zero, suc, ◌+◌, ◌*◌, ◌-◌, Bool, true, false, List, [], ◌∷◌, length, take, drop, get_or, leb, ltb}
 use Rattle.text.specs.Bytes.{place}
 use Rattle.text.specs.Cut.{cut}
 use Rattle.container_layout.specs.declared.Tables.{Tables}
@@ -8,10 +8,6 @@ use Rattle.text.specs.declared.Stretch.{Stretch}
 use Rattle.text.specs.declared.Stretch.TheVariants as stretch
 use Rattle.container_layout.specs.declared.Entry.{Entry}
 use Rattle.container_layout.specs.declared.Entry.TheVariants as entries
-
--- a file of another length than the record says. SPEC 8.1
-abbrev pub stale : List ℕ → Tables → Bool
-stale s t = not (eqb (length s) t.length)
 
 -- a word of 32 bits, from its lowest byte on
 abbrev pub from_bytes : ℕ → ℕ → ℕ → ℕ → ℕ

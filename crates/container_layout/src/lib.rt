@@ -3,7 +3,7 @@
 ghost use Rattle.std.specs.Prelude.{◌≡◌, ◌+◌, ◌<◌, ◌≤◌, length};
 ghost use Rattle.text.specs.Bytes.{front, place};
 ghost use Rattle.text.specs.Cut.{cut};
-ghost use Rattle.container_layout.specs.Mo.{stale, from_bytes, word, within, string, entry, segment, piece_at};
+ghost use Rattle.container_layout.specs.Mo.{from_bytes, word, within, string, entry, segment, piece_at};
 ghost use Rattle.container_layout.specs.Promise.{Splits};
 ghost use Rattle.container_layout.specs.Private.{plain};
 
@@ -23,20 +23,8 @@ pub struct Tables {
 // Where an entry's key lies, and its translation.
 #[derive(Drop)]
 pub enum Entry {
-    At {
-        key_start: usize,
-        key_len: usize,
-        start: usize,
-        len: usize,
-    },
+    At(usize, usize, usize, usize),
     NoEntry,
-}
-
-// Whether a file has another length than the record says.
-pub fn is_stale(file: &[u8], t: Tables) -> bool
-    ensures { result ≡ stale file.now t }
-{
-    file.len() != t.length
 }
 
 // A word as a number of the machine.
@@ -75,7 +63,7 @@ fn cell_at(file: &[u8], at: usize, big: bool) -> Stretch
     if file.len() < start + len + 1 {
         return Stretch::Absent;
     }
-    Stretch::At { start, len }
+    Stretch::At(start, len)
 }
 
 // The string that the cell of an index names. The index may be any number, so nothing is added before it is tested.
@@ -167,7 +155,7 @@ pub fn entry_at(file: &[u8], t: Tables, i: usize) -> Entry
     ensures { result ≡ entry file.now t i }
 {
     let original = string_at(file, t.big, t.originals, i);
-    let Stretch::At { start: key, len } = original else {
+    let Stretch::At(key, len) = original else {
         return Entry::NoEntry;
     };
     let end = key + len + 1;
@@ -176,15 +164,10 @@ pub fn entry_at(file: &[u8], t: Tables, i: usize) -> Entry
         return Entry::NoEntry;
     }
     let translation = string_at(file, t.big, t.translations, i);
-    let Stretch::At { start, len: size } = translation else {
+    let Stretch::At(start, size) = translation else {
         return Entry::NoEntry;
     };
-    Entry::At {
-        key_start: key,
-        key_len: parts.end,
-        start,
-        len: size,
-    }
+    Entry::At(key, parts.end, start, size)
 }
 
 // The place of a segment, of those of a translation that starts at a place of its file.
@@ -197,10 +180,7 @@ fn segment_in(translation: &[u8], start: usize, form: u64) -> Stretch
     loop {
         let end = text::find_byte_from(translation, at, 0);
         if left == 0 {
-            return Stretch::At {
-                start: start + at,
-                len: end - at,
-            };
+            return Stretch::At(start + at, end - at);
         }
         if translation.len() <= end {
             return Stretch::Absent;

@@ -19,7 +19,7 @@ use Rattle.container_messages.specs.declared.Translation.TheVariants as translat
 use Rattle.container_messages.specs.declared.Read.{Read}
 use Rattle.container_messages.specs.declared.Read.TheVariants as read
 
--- SPEC 3.4: an original, o being its string with the byte after it
+-- 4. an original, o being its string with the byte after it
 abbrev pub identified : ℕ → List ℕ → Original
 identified i [] = elim (eqb i 0) [ true ↦ original.Empty | false ↦ original.Refused MisplacedMetadata ]
 identified i (b ∷ s) = original.Named
@@ -38,7 +38,7 @@ abbrev pub original_in : List ℕ → ℕ → Stretch → Original
 original_in s i (stretch.At start len) = original_of i (original s start len)
 original_in s i stretch.Absent = original.Refused Eof
 
--- SPEC 3.5: a translation; the byte after it is not looked at
+-- 5. a translation; the byte after it is not looked at
 abbrev pub translation_in : List ℕ → Stretch → Translation
 translation_in s (stretch.At start len) =
     elim (every utf8 (segments s start len)) [ true ↦ translation.At start len | false ↦ translation.Refused DecodingError ]

@@ -20,7 +20,7 @@ enum Original {
 // Where a translation lies.
 #[derive(Drop)]
 enum Translation {
-    At { start: usize, len: usize },
+    At(usize, usize),
     Refused(Error),
 }
 
@@ -28,7 +28,7 @@ enum Translation {
 #[derive(Drop)]
 pub enum Read {
     Message,
-    Header { start: usize, len: usize },
+    Header(usize, usize),
     Refused(Refusal),
 }
 
@@ -36,7 +36,7 @@ pub enum Read {
 fn refused(i: usize, side: Side, e: Error) -> Read
     ensures { result ≡ refused_on i side e }
 {
-    Read::Refused(refusal::at(Where::Entry { index: i, side }, e))
+    Read::Refused(refusal::at(Where::Entry(i, side), e))
 }
 
 // The original of an index with the byte after it: its context and its id.
@@ -69,7 +69,7 @@ fn original_at(file: &[u8], big: bool, originals: u32, i: usize) -> Original
     ensures { result ≡ original_in file.now i (string big file.now originals i) }
 {
     let string = container_layout::string_at(file, big, originals, i);
-    let Stretch::At { start, len } = string else {
+    let Stretch::At(start, len) = string else {
         return Original::Refused(Error::Eof);
     };
     let end = start + len + 1;
@@ -88,12 +88,12 @@ fn translation_at(file: &[u8], big: bool, translations: u32, i: usize) -> Transl
     ensures { result ≡ translation_in file.now (string big file.now translations i) }
 {
     let string = container_layout::string_at(file, big, translations, i);
-    let Stretch::At { start, len } = string else {
+    let Stretch::At(start, len) = string else {
         return Translation::Refused(Error::Eof);
     };
     let end = start + len;
     if is_text(file, start, end) {
-        return Translation::At { start, len };
+        return Translation::At(start, len);
     }
     Translation::Refused(Error::DecodingError)
 }
@@ -102,7 +102,7 @@ fn message(translation: Translation, i: usize) -> Read
     ensures { result ≡ joined i Original.Named translation }
 {
     match translation {
-        Translation::At { start, len } => Read::Message,
+        Translation::At(start, len) => Read::Message,
         Translation::Refused(e) => refused(i, Side::Translation, e),
     }
 }
@@ -111,7 +111,7 @@ fn header_of(translation: Translation, i: usize) -> Read
     ensures { result ≡ joined i Original.Empty translation }
 {
     match translation {
-        Translation::At { start, len } => Read::Header { start, len },
+        Translation::At(start, len) => Read::Header(start, len),
         Translation::Refused(e) => refused(i, Side::Translation, e), // not yet the header's
     }
 }

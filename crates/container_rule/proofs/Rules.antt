@@ -11,7 +11,7 @@ use Rattle.refusal.specs.declared.Refusal.{Refusal}
 use Rattle.refusal.specs.declared.Where.TheVariants.{Forced}
 use Rattle.refusal.specs.declared.Outcome.TheVariants as outcome
 use Rattle.rules.specs.Tree.{Tree, default_tree}
-use Rattle.rules.specs.Nodes.{Nodes}
+use Rattle.rules.specs.Pool.{Pool}
 use Rattle.rules.specs.Pack.{packed_size, packed}
 use Rattle.reading_rule.specs.Plurals.{rule, norule, parsed, Parses}
 use Rattle.reading_rule.specs.declared.Reading.{Reading}
@@ -25,11 +25,11 @@ use Rattle.container_rule.specs.declared.First.{First}
 use Rattle.container_rule.specs.declared.First.TheVariants as first
 
 -- a tree alone in the arrays, of k nodes, is a rule
-pub a_rule : {t : Tree} {Q : Nodes} {k : ℕ} → Q ≡ packed t → k ≡ packed_size t → Parses (rule t) Q (record { outcome = outcome.Loaded; nodes = k })
+pub a_rule : {t : Tree} {Q : Pool} {k : ℕ} → Q ≡ packed t → k ≡ packed_size t → Parses (rule t) Q (record { outcome = outcome.Loaded; nodes = k })
 a_rule e f = record { outcome = refl; nodes = f; stored = e }
 
 -- a forced rule is read, else the default stands
-module _ (forced : Bool) (reading : Reading) (s : List ℕ) {Q : Nodes} {r : Parsed} where
+module _ (forced : Bool) (reading : Reading) (s : List ℕ) {Q : Pool} {r : Parsed} where
   pub forced_read : forced ≡ true → Parses (parsed Forced reading s) Q r → Parses (forced_rule forced reading s) Q r
   forced_read e g = let z : forced_rule forced reading s ≡ parsed Forced reading s = taken _ _ e in rw z g
 
@@ -40,7 +40,7 @@ module _ (forced : Bool) (reading : Reading) (s : List ℕ) {Q : Nodes} {r : Par
 pub rule_end : {f : First} {p : Stretch} {m : Forms} {a l : ℕ} → f ≡ first.Rule p m → p ≡ At a l → (n : ℕ) → end_of_rule f ≤ n → a + l ≤ n
 rule_end e g n h = rw (e, g) at h
 
-module _ (reading : Reading) (s : List ℕ) {f : First} {k : ℕ} {P Q : Nodes} where
+module _ (reading : Reading) (s : List ℕ) {f : First} {k : ℕ} {P Q : Pool} where
   pub rule_there : {p : Stretch} {m : Forms} {a l : ℕ} {r : Parsed} → f ≡ first.Rule p m → p ≡ At a l → Parses (parsed in_rule reading (take (a + l - a) (drop a s))) Q r → Chooses reading s f k P Q r
   rule_there {p} {m} {a} {l} e d g = let z : a + l - a ≡ l = omega arith in record { chosen = rw (e, d, ← z) g }
 
@@ -51,7 +51,7 @@ module _ (reading : Reading) (s : List ℕ) {f : First} {k : ℕ} {P Q : Nodes} 
   rule_refused e g = record { chosen = rw e g }
 
 -- the stage's rule, whatever tree was there before
-module _ (reading : Reading) (s : List ℕ) (t : Tree) {k : ℕ} {P Q : Nodes} {r : Parsed} (stored : P ≡ packed t) (nodes : k ≡ packed_size t) where
+module _ (reading : Reading) (s : List ℕ) (t : Tree) {k : ℕ} {P Q : Pool} {r : Parsed} (stored : P ≡ packed t) (nodes : k ≡ packed_size t) where
   by_place : (f : First) → Chosen reading s f k P Q r → Parses (rule_in reading s t f) Q r
   by_place (first.Rule (At a l) m) p = p
   by_place (first.Rule Absent m) p = rw (p.0, p.1) (a_rule stored nodes)

@@ -7,7 +7,7 @@ use contract.Lifetimes.{Lfts}
 use denote.Triple.Clauses.{AtExit}
 use borrow.Fn.Kinds.{ended_of}
 use Rattle.promise.proofs.One.{One, OneLeft}
-use Rattle.rules.specs.Nodes.{Nodes, nodes_of}
+use Rattle.rules.specs.Pool.{Pool, pool}
 use Rattle.reading_rule.specs.declared.Reading.{Reading}
 use Rattle.reading_rule.specs.declared.Parsed.{Parsed}
 use Rattle.reading_rule.proofs.Unique.{parses_one}
@@ -27,24 +27,24 @@ use Rattle.container_rule.proofs.rule_of.Kinds as rule-of-kinds
 pub parse_first_one : One 1 parse-first-kinds.ps parse-first-kinds.r parse-first.Post
 parse_first_one κs a u v x y p q = p ∙ sym q
 
-abbrev forced_left : (κs : Lfts 4) → AtExit (ended_of 4 parse-forced-kinds.ps parse-forced-kinds.r) κs → Nodes
-forced_left κs x = nodes_of x.1.1.1.0.now x.1.1.1.1.0.now x.1.1.1.1.1.0.now
+abbrev forced_left : (κs : Lfts 4) → AtExit (ended_of 4 parse-forced-kinds.ps parse-forced-kinds.r) κs → Pool
+forced_left κs x = pool x.1.1.1.0.now x.1.1.1.1.0.now x.1.1.1.1.1.0.now
 
 pub parse_forced_one : OneLeft 4 parse-forced-kinds.ps parse-forced-kinds.r parse-forced.Post forced_left
 parse_forced_one κs a u v x y p q = parses_one _ u v p q
 
-module _ (reading : Reading) (s : List ℕ) (k : ℕ) (O P Q : Nodes) (u v : Parsed) where
+module _ (reading : Reading) (s : List ℕ) (k : ℕ) (O P Q : Pool) (u v : Parsed) where
   chosen_one : (f : First) → Chosen reading s f k O P u → Chosen reading s f k O Q v → (u ≡ v) × (P ≡ Q)
   chosen_one (first.Rule (At a l) m) p q = parses_one _ u v p q
   chosen_one (first.Rule Absent m) p q = (p.0 ∙ sym q.0, p.1 ∙ sym q.1)
   chosen_one (first.Refused e) p q = parses_one _ u v p q
 
-chooses_one : {reading : Reading} {s : List ℕ} {f : First} {k : ℕ} {O P Q : Nodes} (u v : Parsed) → Chooses reading s f k O P u → Chooses reading s f k O Q v
+chooses_one : {reading : Reading} {s : List ℕ} {f : First} {k : ℕ} {O P Q : Pool} (u v : Parsed) → Chooses reading s f k O P u → Chooses reading s f k O Q v
     → (u ≡ v) × (P ≡ Q)
 chooses_one {reading} {s} {f} {k} {O} {P} {Q} u v p q = chosen_one reading s k O P Q u v f p.chosen q.chosen
 
-abbrev rule_left : (κs : Lfts 4) → AtExit (ended_of 4 rule-of-kinds.ps rule-of-kinds.r) κs → Nodes
-rule_left κs x = nodes_of x.1.1.1.1.0.now x.1.1.1.1.1.0.now x.1.1.1.1.1.1.0.now
+abbrev rule_left : (κs : Lfts 4) → AtExit (ended_of 4 rule-of-kinds.ps rule-of-kinds.r) κs → Pool
+rule_left κs x = pool x.1.1.1.1.0.now x.1.1.1.1.1.0.now x.1.1.1.1.1.1.0.now
 
 pub rule_of_one : OneLeft 4 rule-of-kinds.ps rule-of-kinds.r rule-of.Post rule_left
 rule_of_one κs a u v x y p q = chooses_one u v p q

@@ -23,11 +23,11 @@ use Rattle.container_messages.specs.declared.Read.TheVariants as read
 use Rattle.container_rule.specs.declared.First.{First}
 use Rattle.container_rule.specs.declared.First.TheVariants as first
 
--- SPEC 3.1: the forced rule, where one is given
+-- 1. the forced rule, where one is given
 abbrev pub forced_rule : Bool → Reading → List ℕ → Parse
 forced_rule forced reading f = elim forced [ true ↦ parsed Forced reading f | false ↦ rule default_tree ]
 
--- SPEC 3.6 and 5.2: the charset label, if there is one
+-- 6. the charset label, if there is one
 abbrev pub label_ok : List ℕ → Stretch → Bool
 label_ok h (At start len) = utf8_label (take len (drop start h))
 label_ok h Absent = true

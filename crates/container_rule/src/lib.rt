@@ -2,7 +2,7 @@
 // id is empty. From parser.rs:
 // the part of `parse_catalog` for an empty id, and where it sets the resolver. The nodes of the rule go into arrays that the caller lends.
 ghost use Rattle.std.specs.Prelude.{◌≡◌, ◌||◌, ◌+◌, ◌^◌, ◌<◌, ◌≤◌, length};
-ghost use Rattle.rules.specs.Nodes.{nodes_of};
+ghost use Rattle.rules.specs.Pool.{pool};
 ghost use Rattle.refusal.specs.Places.{at, in_header};
 ghost use Rattle.header_fields.specs.Promise.{end_of};
 ghost use Rattle.reading_rule.specs.Plurals.{Parses};
@@ -20,7 +20,7 @@ use text::Stretch;
 // Where the header's rule lies that is to be read, if any, and the count of forms; or why the load ends.
 #[derive(Drop)]
 pub enum First {
-    Rule { rule: Stretch, forms: Forms },
+    Rule(Stretch, Forms),
     Refused(Refusal),
 }
 
@@ -28,13 +28,7 @@ pub enum First {
 fn refused(e: Error) -> First
     ensures { result ≡ First.Refused (at in_header e) }
 {
-    First::Refused(refusal::at(
-        Where::Entry {
-            index: 0,
-            side: Side::Header,
-        },
-        e,
-    ))
+    First::Refused(refusal::at(Where::Entry(0, Side::Header), e))
 }
 
 // UTF-8 is forced, or the label is one of UTF-8's, or there is none.
@@ -46,7 +40,7 @@ fn is_known(h: &[u8], label: Stretch, utf8: bool) -> bool
         return true;
     }
     match label {
-        Stretch::At { start, len } => {
+        Stretch::At(start, len) => {
             let end = start + len;
             header::is_utf8_label(&h[start..end])
         }
@@ -59,19 +53,16 @@ fn parse_header(h: &[u8], forced: bool, utf8: bool) -> First
     ensures { result ≡ rule_at forced utf8 h.now }
 {
     let fields = header::parse_metadata(h);
-    let Metadata::Fields { label, rule, forms } = fields else {
+    let Metadata::Fields(label, rule, forms) = fields else {
         return refused(Error::MalformedMetadata);
     };
     if !is_known(h, label, utf8) {
         return refused(Error::UnknownEncoding);
     }
     if forced {
-        return First::Rule {
-            rule: Stretch::Absent, // the forced one stands instead
-            forms,
-        };
+        return First::Rule(Stretch::Absent, forms); // the forced one stands instead
     }
-    First::Rule { rule, forms }
+    First::Rule(rule, forms)
 }
 
 // The same place, counted from k bytes earlier.
@@ -80,10 +71,7 @@ fn moved(k: usize, first: First) -> First
     ensures { result ≡ shifted k first }
 {
     match first {
-        First::Rule { rule, forms } => First::Rule {
-            rule: header_fields::moved(k, rule),
-            forms,
-        },
+        First::Rule(rule, forms) => First::Rule(header_fields::moved(k, rule), forms),
         First::Refused(e) => First::Refused(e),
     }
 }
@@ -103,18 +91,12 @@ pub fn parse_first(file: &[u8], t: Tables, forced: bool, utf8: bool) -> First
     ensures { result ≡ first_rule forced utf8 file.now t }
 {
     if t.count == 0 {
-        return First::Rule {
-            rule: Stretch::Absent,
-            forms: Forms::Absent,
-        };
+        return First::Rule(Stretch::Absent, Forms::Absent);
     }
     let entry = container_messages::parse_entry(file, t, 0);
     match entry {
-        Read::Message => First::Rule {
-            rule: Stretch::Absent,
-            forms: Forms::Absent,
-        },
-        Read::Header { start, len } => header_at(file, start, len, forced, utf8),
+        Read::Message => First::Rule(Stretch::Absent, Forms::Absent),
+        Read::Header(start, len) => header_at(file, start, len, forced, utf8),
         Read::Refused(e) => First::Refused(e),
     }
 }
@@ -124,7 +106,7 @@ pub fn forms_of(first: First) -> Forms
     ensures { result ≡ forms_of first }
 {
     match first {
-        First::Rule { rule, forms } => forms,
+        First::Rule(rule, forms) => forms,
         First::Refused(e) => Forms::Absent,
     }
 }
@@ -135,15 +117,15 @@ pub fn parse_forced(
     given: bool,
     reading: Reading,
     codes: &mut [u8; 512],
-    fields: &mut [u16; 1024],
+    places: &mut [u16; 1024],
     values: &mut [u64; 512],
 ) -> Parsed
-    ensures { Parses (forced_rule given reading text.now) (nodes_of codes.new fields.new values.new) result }
+    ensures { Parses (forced_rule given reading text.now) (pool codes.new places.new values.new) result }
 {
     if given {
-        return reading_rule::parse(text, Where::Forced, reading, codes, fields, values);
+        return reading_rule::parse(text, Where::Forced, reading, codes, places, values);
     }
-    let nodes = rules::put_default(codes, fields, values);
+    let nodes = rules::put_default(codes, places, values);
     Parsed {
         outcome: Outcome::Loaded,
         nodes,
@@ -157,28 +139,25 @@ pub fn rule_of(
     before: usize,
     reading: Reading,
     codes: &mut [u8; 512],
-    fields: &mut [u16; 1024],
+    places: &mut [u16; 1024],
     values: &mut [u64; 512],
 ) -> Parsed
     requires { end_of_rule first ≤ length file.now }
     ensures { Chooses reading file.now first before
-        (nodes_of codes.old fields.old values.old)
-        (nodes_of codes.new fields.new values.new) result }
+        (pool codes.old places.old values.old)
+        (pool codes.new places.new values.new) result }
 {
     match first {
-        First::Rule { rule, forms } => match rule {
-            Stretch::At { start, len } => {
+        First::Rule(rule, forms) => match rule {
+            Stretch::At(start, len) => {
                 let rule_end = start + len;
-                let place = Where::Entry {
-                    index: 0,
-                    side: Side::Rule,
-                };
+                let place = Where::Entry(0, Side::Rule);
                 reading_rule::parse(
                     &file[start..rule_end],
                     place,
                     reading,
                     codes,
-                    fields,
+                    places,
                     values,
                 )
             }
@@ -187,6 +166,6 @@ pub fn rule_of(
                 nodes: before,
             },
         },
-        First::Refused(e) => reading_rule::refuse(e, codes, fields, values),
+        First::Refused(e) => reading_rule::refuse(e, codes, places, values),
     }
 }

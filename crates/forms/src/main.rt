@@ -59,14 +59,14 @@ fn show(figures: &[u64; 18]) {
 
 fn count(rule: &[u8], a: u64, b: u64) {
     let mut codes = [0u8; 512];
-    let mut fields = [0u16; 1024];
+    let mut places = [0u16; 1024];
     let mut values = [0u64; 512];
     let parsed = reading_rule::parse(
         rule,
         Where::Forced,
         Reading::Standard,
         &mut codes,
-        &mut fields,
+        &mut places,
         &mut values,
     );
     let outcome = parsed.outcome;
@@ -81,7 +81,7 @@ fn count(rule: &[u8], a: u64, b: u64) {
     let mut figures = [0u64; 18];
     let counting = rules_span::tally(
         &codes,
-        &fields,
+        &places,
         &values,
         nodes,
         nodes - 1,

@@ -14,6 +14,10 @@ use Rattle.gettext.proofs.answer_ngettext.Reads as answer-ngettext
 use Rattle.gettext.proofs.answer_ngettext.Kinds as answer-ngettext-kinds
 use Rattle.gettext.proofs.answer_npgettext.Reads as answer-npgettext
 use Rattle.gettext.proofs.answer_npgettext.Kinds as answer-npgettext-kinds
+use Rattle.gettext.proofs.rating.Reads as rating
+use Rattle.gettext.proofs.rating.Kinds as rating-kinds
+use Rattle.gettext.proofs.fits.Reads as fits
+use Rattle.gettext.proofs.fits.Kinds as fits-kinds
 use Rattle.gettext.proofs.gettext.Reads as gettext
 use Rattle.gettext.proofs.gettext.Kinds as gettext-kinds
 use Rattle.gettext.proofs.pgettext.Reads as pgettext
@@ -34,6 +38,12 @@ answer_ngettext_one κs a u v x y p q = p ∙ sym q
 
 pub answer_npgettext_one : One 1 answer-npgettext-kinds.ps answer-npgettext-kinds.r answer-npgettext.Post
 answer_npgettext_one κs a u v x y p q = p ∙ sym q
+
+pub rating_one : One 0 rating-kinds.ps rating-kinds.r rating.Post
+rating_one κs a u v x y p q = p ∙ sym q
+
+pub fits_one : One 0 fits-kinds.ps fits-kinds.r fits.Post
+fits_one κs a u v x y p q = p ∙ sym q
 
 pub gettext_one : (κs : Lfts 1) (a : Dens κs gettext-kinds.ps) (u v : (res_t gettext-kinds.r κs).Denot) (x y : AtExit (ended_of 1 gettext-kinds.ps gettext-kinds.r) κs)
     → gettext.Post κs a u x → gettext.Post κs a v y → SameText u v

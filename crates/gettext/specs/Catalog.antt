@@ -1,19 +1,19 @@
 -- What a record says to a lookup. SPEC 8: the tables and the rule as nodes; and what the four lookups answer.
 use Rattle.std.specs.Prelude.{ℕ, List}
-use Rattle.rules.specs.Nodes.{Nodes, nodes_of}
+use Rattle.rules.specs.Pool.{Pool, pool}
 use Rattle.rules.specs.Answer.{resolved_of}
 use Rattle.rules.specs.declared.Resolved.{Resolved}
-use Rattle.lookup_scan.specs.Last.{last_with}
+use Rattle.lookup_scan.specs.Keys.{last_with}
 use Rattle.lookup.specs.Lookup.{singular, plural}
 use Rattle.lookup.specs.declared.Reason.{Reason}
 use Rattle.container.specs.declared.Record.{Record}
 
-abbrev pub nodes_in : Record → Nodes
-nodes_in c = nodes_of c.codes c.fields c.values
+abbrev pub pool_of : Record → Pool
+pool_of c = pool c.codes c.places c.values
 
 -- the rule's value at a count
 abbrev pub value_at : Record → ℕ → Resolved
-value_at c n = resolved_of (nodes_in c) c.nodes c.root n
+value_at c n = resolved_of (pool_of c) c.nodes c.root n
 
 -- a lookup of a key in the file s, and one with a count
 abbrev pub found : List ℕ → Record → List ℕ → Reason

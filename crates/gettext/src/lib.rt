@@ -1,22 +1,21 @@
-// The four lookups in a catalog by value: the file, lent, and the record that loading returned. A port of lib.rs. Each is two functions: one
-// says by value why, and so which text answers; the other hands back that text, a part of the file or of the caller's own, under one lifetime.
-// A host takes the lookups of `host_lookup`, which copy no record; these are the form for programs in Rattle, and `test_replay` runs them.
+// The four lookups in a catalog: the file, lent, and the record that loading returned. A port of lib.rs. Each is two functions: one
+// says by value why, and so which text answers; the other hands back that text, a part of the file or of the caller's own.
 ghost use Rattle.std.specs.Prelude.{◌≡◌, true};
-ghost use Rattle.lookup.specs.Keys.{key_of};
+ghost use Rattle.rules.specs.Answer.{rated_of, fit_of};
+ghost use Rattle.lookup_scan.specs.Keys.{key_of};
 ghost use Rattle.lookup.specs.Text.{singular_text, plural_text, IsText};
-ghost use Rattle.gettext.specs.Catalog.{value_at, found, counted};
+ghost use Rattle.gettext.specs.Catalog.{pool_of, found, counted};
 
 use container::Record;
-use lookup::{Reason, Sought};
-use rules::Resolved;
+use lookup::Reason;
+use rules::{Fit, Rated};
 
 // Why `gettext` answers as it does.
 pub fn answer_gettext(file: &[u8], catalog: Record, id: &[u8]) -> Reason
     ensures { result ≡ found file.now catalog id.now }
 {
     let tables = catalog.tables;
-    let hit = lookup_scan::last_hit(file, tables, false, id, id);
-    lookup::after(file, tables, Resolved::Form(0), Sought::Found(hit))
+    lookup::find(file, tables, false, id, id)
 }
 
 // Why `pgettext` does: the key is the context, byte 4 and the id.
@@ -24,24 +23,7 @@ pub fn answer_pgettext(file: &[u8], catalog: Record, context: &[u8], id: &[u8]) 
     ensures { result ≡ found file.now catalog (key_of true context.now id.now) }
 {
     let tables = catalog.tables;
-    let hit = lookup_scan::last_hit(file, tables, true, context, id);
-    lookup::after(file, tables, Resolved::Form(0), Sought::Found(hit))
-}
-
-// The value of a catalog's rule at a count.
-fn value_at(catalog: Record, n: u64) -> Resolved
-    ensures { result ≡ value_at catalog n }
-{
-    let nodes = catalog.nodes;
-    let root = catalog.root;
-    rules_value::resolve(
-        &catalog.codes,
-        &catalog.fields,
-        &catalog.values,
-        nodes,
-        root,
-        n,
-    )
+    lookup::find(file, tables, true, context, id)
 }
 
 // Why `ngettext` does for a count.
@@ -49,9 +31,21 @@ pub fn answer_ngettext<'a>(file: &'a [u8], catalog: Record, id: &'a [u8], n: u64
     ensures { result ≡ counted file.now catalog id.now n }
 {
     let tables = catalog.tables;
-    let value = value_at(catalog, n);
-    let hit = lookup_scan::last_hit(file, tables, false, id, id);
-    lookup::after(file, tables, value, Sought::Found(hit))
+    let nodes = catalog.nodes;
+    let root = catalog.root;
+    lookup::nfind(
+        file,
+        tables,
+        &catalog.codes,
+        &catalog.places,
+        &catalog.values,
+        nodes,
+        root,
+        false,
+        id,
+        id,
+        n,
+    )
 }
 
 // Why `npgettext` does for a count.
@@ -65,9 +59,21 @@ pub fn answer_npgettext<'a>(
     ensures { result ≡ counted file.now catalog (key_of true context.now id.now) n }
 {
     let tables = catalog.tables;
-    let value = value_at(catalog, n);
-    let hit = lookup_scan::last_hit(file, tables, true, context, id);
-    lookup::after(file, tables, value, Sought::Found(hit))
+    let nodes = catalog.nodes;
+    let root = catalog.root;
+    lookup::nfind(
+        file,
+        tables,
+        &catalog.codes,
+        &catalog.places,
+        &catalog.values,
+        nodes,
+        root,
+        true,
+        context,
+        id,
+        n,
+    )
 }
 
 // The translation of an id, or the id.
@@ -115,4 +121,35 @@ pub fn npgettext<'a>(
 {
     let reason = answer_npgettext(file, catalog, context, id, n);
     lookup::text_of(file, id, plural_id, lookup::plural_text(reason, n))
+}
+
+// The lowest and the highest form of the catalog's rule.
+pub fn rating(catalog: Record) -> Rated
+    ensures { result ≡ rated_of (pool_of catalog) catalog.nodes catalog.root }
+{
+    let nodes = catalog.nodes;
+    let root = catalog.root;
+    rules_range::rating_of(
+        &catalog.codes,
+        &catalog.places,
+        &catalog.values,
+        nodes,
+        root,
+    )
+}
+
+// Whether the catalog's rule is rated and names forms below k alone.
+pub fn fits(catalog: Record, k: u64) -> Fit
+    ensures { result ≡ fit_of (pool_of catalog) catalog.nodes catalog.root k }
+{
+    let nodes = catalog.nodes;
+    let root = catalog.root;
+    rules_range::fits(
+        &catalog.codes,
+        &catalog.places,
+        &catalog.values,
+        nodes,
+        root,
+        k,
+    )
 }

@@ -13,11 +13,7 @@ use text_trim::Set;
 #[derive(Drop)]
 pub enum Metadata {
     Malformed,
-    Fields {
-        label: Stretch,
-        rule: Stretch,
-        forms: Forms,
-    },
+    Fields(Stretch, Stretch, Forms),
 }
 
 // The label in a Content-Type: between the first "charset=" and the second, or the end.
@@ -31,11 +27,8 @@ fn charset_in(v: &[u8]) -> Stretch
     let start = i + 8;
     let second = text::find(&v[start..], b"charset=");
     match second {
-        Found::At(j) => Stretch::At { start, len: j },
-        Found::Nowhere => Stretch::At {
-            start,
-            len: v.len() - start,
-        },
+        Found::At(j) => Stretch::At(start, j),
+        Found::Nowhere => Stretch::At(start, v.len() - start),
     }
 }
 
@@ -68,7 +61,7 @@ fn part_in(h: &[u8], p: Stretch, sought: Sought) -> Stretch
     ensures { result ≡ within h.now p (part_of sought) }
 {
     match p {
-        Stretch::At { start, len } => {
+        Stretch::At(start, len) => {
             let end = start + len;
             header_fields::moved(start, part_of(&h[start..end], sought))
         }
@@ -85,11 +78,11 @@ pub fn parse_metadata(h: &[u8]) -> Metadata
     }
     let content_type = header_fields::last_of(h, b'\n', b':', b"Content-Type", Set::WhiteSpace);
     let plural_forms = header_fields::last_of(h, b'\n', b':', b"Plural-Forms", Set::WhiteSpace);
-    Metadata::Fields {
-        label: part_in(h, content_type, Sought::Charset),
-        rule: part_in(h, plural_forms, Sought::Plural),
-        forms: header_forms::forms_at(h, plural_forms),
-    }
+    Metadata::Fields(
+        part_in(h, content_type, Sought::Charset),
+        part_in(h, plural_forms, Sought::Plural),
+        header_forms::forms_at(h, plural_forms),
+    )
 }
 
 // Whether a label is one of UTF-8's.

@@ -15,10 +15,7 @@ pub fn moved(k: usize, p: Stretch) -> Stretch
     ensures { result ≡ shift k p }
 {
     match p {
-        Stretch::At { start, len } => Stretch::At {
-            start: k + start,
-            len,
-        },
+        Stretch::At(start, len) => Stretch::At(k + start, len),
         Stretch::Absent => Stretch::Absent,
     }
 }
@@ -28,7 +25,7 @@ fn or_else(p: Stretch, q: Stretch) -> Stretch
     ensures { result ≡ or_else p q }
 {
     match p {
-        Stretch::At { start, len } => p,
+        Stretch::At(start, len) => p,
         Stretch::Absent => q,
     }
 }
@@ -44,10 +41,7 @@ fn named_value(s: &[u8], x: u8, name: &[u8], names: Set) -> Stretch
     if text::equal(text_trim::trim(&s[..i], names), name) {
         let after = i + 1;
         let value = text_trim::trimmed(&s[after..], Set::WhiteSpace);
-        return Stretch::At {
-            start: after + value.start,
-            len: value.len,
-        };
+        return Stretch::At(after + value.start, value.len);
     }
     Stretch::Absent
 }

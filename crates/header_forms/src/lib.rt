@@ -83,7 +83,7 @@ pub fn forms_at(h: &[u8], p: Stretch) -> Forms
     ensures { result ≡ forms_at h.now p }
 {
     match p {
-        Stretch::At { start, len } => {
+        Stretch::At(start, len) => {
             let end = start + len;
             form_count(&h[start..end])
         }

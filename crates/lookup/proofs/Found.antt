@@ -1,42 +1,40 @@
 -- Where an answer comes from, however its entry was found, in any record and any file: the file's length is the record's, the form is the
 -- rule's value, and the segment is the one that this form names in an entry below the count that has the key. So it lies in the file, and
 -- a host may take it from there. Assumes nothing.
-use Prim.Native.Nat.{ℕ, ◌+◌, ◌≤◌}
+use Prim.Native.Nat.{ℕ, zero, suc, ◌+◌, ◌<◌, ◌≤◌}
 use mathlib.Core.Path.{◌≡◌, refl, sym, ap, ◌∙◌}
-use mathlib.Core.List.{List, []}
+use mathlib.Core.List.{List, [], ◌∷◌}
 use native.Mathlib.Omega.{arith}
 use lib.ListN.{length, get_or, take, drop}
-use lib.Dec.{leb, ltb}
-use borrow.Author.Tests.{leb-true, ltb-true, ltb-false}
+use lib.Dec.{eqb, leb, ltb}
+use borrow.Author.Tests.{eqb-true, leb-true, ltb-true, ltb-false}
 use Rattle.text.proofs.Tests.{taken, left, by_test}
 use Rattle.rules.specs.declared.Resolved.{Resolved}
 use Rattle.rules.specs.declared.Resolved.TheVariants as resolved
-use Rattle.container_layout.specs.Mo.{stale, segment, segments}
+use Rattle.container_layout.specs.Mo.{piece_at, segment, segments}
 use Rattle.container_layout.specs.declared.Tables.{Tables}
 use Rattle.text.specs.declared.Stretch.{Stretch}
 use Rattle.text.specs.declared.Stretch.TheVariants as stretch
-use Rattle.container_layout.proofs.Forms.{segment_holds, segment_is, no_segment}
-use Rattle.container_layout.proofs.Stale.{long}
-use Rattle.lookup.specs.declared.Hit.{Hit}
-use Rattle.lookup.specs.declared.Hit.TheVariants as hit
-use Rattle.lookup.specs.declared.Sought.{Sought}
-use Rattle.lookup.specs.declared.Sought.TheVariants as sought
-use Rattle.lookup.specs.Lookup.{by_segment, by_sought, after, plural}
+use Rattle.container_layout.proofs.Forms.{segment_holds, segment_is}
+use Rattle.lookup_scan.specs.Keys.{last_with}
+use Rattle.lookup_scan.specs.declared.Hit.{Hit}
+use Rattle.lookup_scan.specs.declared.Hit.TheVariants as hit
+use Rattle.lookup_scan.proofs.Last.{Entered, Sound, last_sound}
+use Rattle.lookup.specs.Lookup.{by_segment, by_rule, plural}
 use Rattle.lookup.specs.declared.Reason.TheVariants.{StaleLength, Answered}
-use Rattle.lookup.proofs.Entered.{Entered, Sound}
 
 -- an answer names the hit and the rule's value
-pub record Answer (s : List ℕ) (t : Tables) (v : Resolved) (x : Sought) (i form at size : ℕ) : Type 0 where
+pub record Answer (s : List ℕ) (t : Tables) (v : Resolved) (h : Hit) (i form at size : ℕ) : Type 0 where
   pub long : length s ≡ t.length
   pub value : v ≡ resolved.Form form
   pub start : ℕ
   pub len : ℕ
-  pub hit : x ≡ sought.Found (hit.At i start len)
+  pub hit : h ≡ hit.At i start len
   pub segment : segment s start len form ≡ stretch.At at size
 
 module _ (s : List ℕ) (t : Tables) {i form at size : ℕ} where
   by_segment_lem : (g j start len : ℕ) (x : Stretch) → length s ≡ t.length → segment s start len g ≡ x → by_segment j g x ≡ Answered i form at size
-      → Answer s t (resolved.Form g) (sought.Found (hit.At j start len)) i form at size
+      → Answer s t (resolved.Form g) (hit.At j start len) i form at size
   by_segment_lem g j start len stretch.Absent l e f = let z : ◌≡◌ {A = ℕ} 0 1 = cc in absurd (omega arith)
   by_segment_lem g j start len (stretch.At a n) l e f =
       let p : j ≡ i = cc in
@@ -48,25 +46,22 @@ module _ (s : List ℕ) (t : Tables) {i form at size : ℕ} where
         value = ap resolved.Form q;
         start = start;
         len = len;
-        hit = ap (λ (k : ℕ). sought.Found (hit.At k start len)) p;
+        hit = ap (λ (k : ℕ). hit.At k start len) p;
         segment = rw (← q, ← x, ← y) e;
       }
 
-  by_sought_lem : (v : Resolved) (x : Sought) → length s ≡ t.length → by_sought s v x ≡ Answered i form at size → Answer s t v x i form at size
-  by_sought_lem (resolved.Form g) (sought.Found (hit.At j start len)) l f = by_segment_lem g j start len (segment s start len g) l refl f
-  by_sought_lem (resolved.Form g) (sought.Found hit.Missing) l f = let z : ◌≡◌ {A = ℕ} 0 1 = cc in absurd (omega arith)
-  by_sought_lem (resolved.Form g) sought.TooFew l f = let z : ◌≡◌ {A = ℕ} 0 1 = cc in absurd (omega arith)
-  by_sought_lem resolved.ZeroModulus (sought.Found h) l f = let z : ◌≡◌ {A = ℕ} 0 1 = cc in absurd (omega arith)
-  by_sought_lem resolved.ZeroModulus sought.TooFew l f = let z : ◌≡◌ {A = ℕ} 0 1 = cc in absurd (omega arith)
-  by_sought_lem resolved.NoTree (sought.Found h) l f = let z : ◌≡◌ {A = ℕ} 0 1 = cc in absurd (omega arith)
-  by_sought_lem resolved.NoTree sought.TooFew l f = let z : ◌≡◌ {A = ℕ} 0 1 = cc in absurd (omega arith)
+  by_rule_lem : (v : Resolved) (h : Hit) → length s ≡ t.length → by_rule s v h ≡ Answered i form at size → Answer s t v h i form at size
+  by_rule_lem (resolved.Form g) (hit.At j start len) l f = by_segment_lem g j start len (segment s start len g) l refl f
+  by_rule_lem (resolved.Form g) hit.Missing l f = let z : ◌≡◌ {A = ℕ} 0 1 = cc in absurd (omega arith)
+  by_rule_lem resolved.ZeroModulus h l f = let z : ◌≡◌ {A = ℕ} 0 1 = cc in absurd (omega arith)
+  by_rule_lem resolved.NoTree h l f = let z : ◌≡◌ {A = ℕ} 0 1 = cc in absurd (omega arith)
 
-  pub answered : (v : Resolved) (x : Sought) → after s t v x ≡ Answered i form at size → Answer s t v x i form at size
-  unfolding after
-  answered v x f =
-      by_test (Answer s t v x i form at size) (stale s t)
-      (λ e. let w = sym (taken StaleLength (by_sought s v x) e) ∙ f in let z : ◌≡◌ {A = ℕ} 0 1 = cc in absurd (omega arith))
-      (λ e. by_sought_lem v x (long s t e) (sym (left _ _ e) ∙ f))
+  pub answered : (v : Resolved) (h : Hit) → plural s t v h ≡ Answered i form at size → Answer s t v h i form at size
+  unfolding plural
+  answered v h f =
+      by_test (Answer s t v h i form at size) (eqb (length s) t.length)
+      (λ e. by_rule_lem v h (eqb-true _ _ e) (sym (taken _ _ e) ∙ f))
+      (λ e. let w = sym (left (by_rule s v h) StaleLength e) ∙ f in let z : ◌≡◌ {A = ℕ} 0 1 = cc in absurd (omega arith))
 
 -- the entry of a segment, and its translation
 pub record Found (s : List ℕ) (t : Tables) (key : List ℕ) (v : Resolved) (i form at size : ℕ) : Type 0 where
@@ -76,18 +71,22 @@ pub record Found (s : List ℕ) (t : Tables) (key : List ℕ) (v : Resolved) (i 
   pub entered : Entered s t key i start len
   pub segment : segment s start len form ≡ stretch.At at size
 
-pub same_hit : {h g : Hit} → sought.Found h ≡ sought.Found g → h ≡ g
-same_hit e = cc
-
--- by a search whose hit, if there is one, is an entry with the key
 module _ (s : List ℕ) (t : Tables) (key : List ℕ) (v : Resolved) {i form at size : ℕ} where
-  pub found_by : {x : Sought} → ((h : Hit) → x ≡ sought.Found h → Sound s t key h) → after s t v x ≡ Answered i form at size → Found s t key v i form at size
-  found_by {x} w f =
-      let a = answered s t v x f in
-      record { value = a.value; start = a.start; len = a.len; entered = (w _ a.hit).told i a.start a.len refl; segment = a.segment }
-
   pub found : {h : Hit} → Sound s t key h → plural s t v h ≡ Answered i form at size → Found s t key v i form at size
-  found {h} w f = found_by (λ g e. rw (← same_hit e) w) f
+  found {h} w f =
+      let a = answered s t v h f in
+      record { value = a.value; start = a.start; len = a.len; entered = w.told i a.start a.len a.hit; segment = a.segment }
+
+  -- by the scan
+  pub last_found : plural s t v (last_with s t key) ≡ Answered i form at size → Found s t key v i form at size
+  last_found f = found (last_sound s t key) f
+
+-- there is no piece past the last
+no_piece : (at k : ℕ) (ps : List (List ℕ)) → length ps ≤ k → piece_at at k ps ≡ stretch.Absent
+unfolding piece_at
+no_piece at k [] h = refl
+no_piece at zero (p ∷ ps) h = absurd (omega arith)
+no_piece at (suc k) (p ∷ ps) h = no_piece (at + length p + 1) k ps (omega arith)
 
 -- a segment that was found lies in the file, and is the one that the form names
 pub record Told (s : List ℕ) (start len form at size : ℕ) : Type 0 where
@@ -107,6 +106,6 @@ segment_told s start len form {at} {size} f =
     let y : h.len ≡ size = cc in
     record { inside = omega (arith, h.inside); text = rw (← x, ← y) h.text })
     (λ g.
-    let w : stretch.Absent ≡ stretch.At at size = sym (no_segment s start len form (ltb-false _ _ g)) ∙ f in
+    let w : stretch.Absent ≡ stretch.At at size = sym (taken _ _ e ∙ no_piece start form (segments s start len) (ltb-false _ _ g)) ∙ f in
     absurd (let z : ◌≡◌ {A = ℕ} 0 1 = cc in omega arith)))
     (λ e. let w : stretch.Absent ≡ stretch.At at size = sym (left _ _ e) ∙ f in absurd (let z : ◌≡◌ {A = ℕ} 0 1 = cc in omega arith))

@@ -1,7 +1,6 @@
-pub mod Entered
 pub mod Reasons
-pub mod Numbers
 pub mod Said
 pub mod Found
 pub mod Rated
+pub mod Indexed
 pub mod Unique

@@ -4,7 +4,7 @@ use mathlib.Core.Path.{◌≡◌, refl, sym, ap, ◌∙◌}
 use mathlib.Core.List.{List, []}
 use native.Mathlib.Omega.{arith}
 use lib.ListN.{length, get_or, take, drop}
-use Rattle.rules.specs.Nodes.{Nodes}
+use Rattle.rules.specs.Pool.{Pool}
 use Rattle.rules.specs.Answer.{resolved_of, rated_of}
 use Rattle.rules.specs.declared.Resolved.{Resolved}
 use Rattle.rules.specs.declared.Resolved.TheVariants as resolved
@@ -14,13 +14,14 @@ use Rattle.container_layout.specs.Mo.{segment, segments}
 use Rattle.container_layout.specs.declared.Tables.{Tables}
 use Rattle.text.specs.declared.Stretch.TheVariants as stretch
 use Rattle.container_layout.proofs.Forms.{segment_holds, segment_is}
-use Rattle.container_layout.proofs.Made.{translation_inside}
-use Rattle.lookup.specs.declared.Hit.{Hit}
-use Rattle.lookup.specs.declared.Hit.TheVariants as hit
+use Rattle.lookup_scan.specs.Keys.{last_with}
+use Rattle.lookup_scan.specs.declared.Hit.{Hit}
+use Rattle.lookup_scan.specs.declared.Hit.TheVariants as hit
+use Rattle.lookup_scan.proofs.Entries.{translation_inside}
+use Rattle.lookup_scan.proofs.Last.{Sound, last_sound}
 use Rattle.lookup.specs.Lookup.{by_entry, by_segment, plural}
 use Rattle.lookup.specs.declared.Reason.{Reason}
 use Rattle.lookup.specs.declared.Reason.TheVariants.{Answered}
-use Rattle.lookup.proofs.Entered.{Sound}
 use Rattle.lookup.proofs.Reasons.{by_rule_lem}
 
 -- the rule's value is a form from lo to hi, and the answer is the segment of entry i that this very form names: the file's bytes there are
@@ -38,7 +39,7 @@ pub record Names (s : List ℕ) (v : Resolved) (i start len lo hi : ℕ) (a : Re
 
 -- A rule rated lo to hi with hi below k, at a count below 2^64: a lookup in a file of the record's length, whose entry with the key, found by
 -- a search that finds only such, stores at least k segments, answers the very segment that the rule's form names.
-module _ (s : List ℕ) (t : Tables) (P : Nodes) (nodes root : ℕ) (key : List ℕ) (lo hi k n : ℕ) {i start len : ℕ}
+module _ (s : List ℕ) (t : Tables) (P : Pool) (nodes root : ℕ) (key : List ℕ) (lo hi k n : ℕ) {i start len : ℕ}
     (r : rated_of P nodes root ≡ rated.Range lo hi) (below : hi < k) (b : n < 2 ^ 64) (long : length s ≡ t.length) where
   pub rated_hit : {h : Hit} → Sound s t key h → h ≡ hit.At i start len → k ≤ length (segments s start len)
       → Names s (resolved_of P nodes root n) i start len lo hi (plural s t (resolved_of P nodes root n) h)
@@ -55,7 +56,12 @@ module _ (s : List ℕ) (t : Tables) (P : Nodes) (nodes root : ℕ) (key : List 
         high = v.high;
         at = q.start;
         size = q.len;
-        is = sym (by_rule_lem s t h long v.is (sym (ap (by_entry s v.form) f ∙ ap (by_segment i v.form) x)));
+        is = sym (by_rule_lem s t (resolved_of P nodes root n) h long refl v.is (sym (ap (by_entry s v.form) f ∙ ap (by_segment i v.form) x)));
         text = q.text;
         inside = q.inside;
       }
+
+  -- by the scan
+  pub rated_lookup : last_with s t key ≡ hit.At i start len → k ≤ length (segments s start len)
+      → Names s (resolved_of P nodes root n) i start len lo hi (plural s t (resolved_of P nodes root n) (last_with s t key))
+  rated_lookup f g = rated_hit (last_sound s t key) f g

@@ -25,7 +25,7 @@ own_text own NoTree h = refl
 own_text own IndexRoom h = refl
 own_text own ZeroModulus h = refl
 own_text own NoEntry h = refl
-own_text own (TooFewSegments i form) h = refl
+own_text own (TooFewSegments i) h = refl
 own_text own (Answered i form start len) h = absurd (miss (0 ∷ 1 ∷ 2 ∷ 3 ∷ 4 ∷ 5 ∷ []) 6 tt h)
 
 -- with a count the caller's own text is the id for 1

@@ -14,8 +14,14 @@ use Rattle.promise.proofs.One.{One}
 use Rattle.lookup.specs.Text.{part_or, IsText}
 use Rattle.lookup.specs.declared.Text.{Text}
 use Rattle.lookup.specs.declared.Text.TheVariants.{Segment, Id, PluralId}
-use Rattle.lookup.proofs.after.Reads as after
-use Rattle.lookup.proofs.after.Kinds as after-kinds
+use Rattle.lookup.proofs.find.Reads as find
+use Rattle.lookup.proofs.find.Kinds as find-kinds
+use Rattle.lookup.proofs.nfind.Reads as nfind
+use Rattle.lookup.proofs.nfind.Kinds as nfind-kinds
+use Rattle.lookup.proofs.find_indexed.Reads as find-indexed
+use Rattle.lookup.proofs.find_indexed.Kinds as find-indexed-kinds
+use Rattle.lookup.proofs.nfind_indexed.Reads as nfind-indexed
+use Rattle.lookup.proofs.nfind_indexed.Kinds as nfind-indexed-kinds
 use Rattle.lookup.proofs.number_of.Reads as number_of_lem
 use Rattle.lookup.proofs.number_of.Kinds as number-of-kinds
 use Rattle.lookup.proofs.singular_text.Reads as singular-text
@@ -25,8 +31,17 @@ use Rattle.lookup.proofs.plural_text.Kinds as plural-text-kinds
 use Rattle.lookup.proofs.text_of.Reads as text_of
 use Rattle.lookup.proofs.text_of.Kinds as text-of-kinds
 
-pub after_one : One 1 after-kinds.ps after-kinds.r after.Post
-after_one κs a u v x y p q = p ∙ sym q
+pub find_one_lem : One 3 find-kinds.ps find-kinds.r find.Post
+find_one_lem κs a u v x y p q = p ∙ sym q
+
+pub nfind_one : One 2 nfind-kinds.ps nfind-kinds.r nfind.Post
+nfind_one κs a u v x y p q = p ∙ sym q
+
+pub find_indexed_one : One 4 find-indexed-kinds.ps find-indexed-kinds.r find-indexed.Post
+find_indexed_one κs a u v x y p q = p ∙ sym q
+
+pub nfind_indexed_one : One 2 nfind-indexed-kinds.ps nfind-indexed-kinds.r nfind-indexed.Post
+nfind_indexed_one κs a u v x y p q = p ∙ sym q
 
 pub number_of_one : One 0 number-of-kinds.ps number-of-kinds.r number_of_lem.Post
 number_of_one κs a u v x y p q = p ∙ sym q

@@ -1,4 +1,4 @@
--- The text that answers, and where it lies. SPEC 9: a segment is a part of the file, any other answer is the caller's own text.
+-- The text that answers, and where it lies. Document 01: "the answer is a part of the file or of the caller's text".
 use Rattle.std.specs.Prelude.{ℕ, ◌+◌, ◌≡◌, Bool, true, false, List, length, take, drop, leb, eqb}
 use Rattle.std.specs.Borrow.{Bor}
 use Rattle.lookup.specs.declared.Reason.{Reason}
@@ -14,7 +14,7 @@ text_or own NoTree = own
 text_or own IndexRoom = own
 text_or own ZeroModulus = own
 text_or own NoEntry = own
-text_or own (TooFewSegments i form) = own
+text_or own (TooFewSegments i) = own
 
 -- which is the id
 abbrev pub singular_text : Reason → Text

@@ -1,35 +1,23 @@
-// What follows from the search for a key, whichever search it was: why a lookup answers as it does, and which text answers. From lib.rs: what
-// `gettext`, `ngettext`, `pgettext` and `npgettext` do with what their map gives; nothing is copied.
+// Lookups: why a lookup answers as it does, and which text answers. From lib.rs: `gettext`, `ngettext`, `pgettext` and `npgettext`; nothing
+// is copied. What follows from the entry with the key is said once, however that entry is found.
 ghost use Rattle.std.specs.Prelude.{◌≡◌};
-ghost use Rattle.lookup.specs.Lookup.{by_entry, by_rule, few_slots, after, number};
+ghost use Rattle.rules.specs.Pool.{pool};
+ghost use Rattle.rules.specs.Answer.{resolved_of};
+ghost use Rattle.lookup_scan.specs.Keys.{key_of, last_with};
+ghost use Rattle.lookup_index.specs.Index.{sought_in};
+ghost use Rattle.lookup.specs.Lookup.{by_entry, by_rule, few_slots, by_slots, singular, plural, singular_in, plural_in, number};
 ghost use Rattle.lookup.specs.Text.{text_or, singular_text, plural_text, IsText};
 
 use container_layout::Tables;
+use lookup_index::Sought;
+use lookup_scan::Hit;
 use refusal::Error;
 use rules::Resolved;
 use text::Stretch;
 
-// The entry with a key, and where its translation lies.
-#[derive(Drop)]
-pub enum Hit {
-    At {
-        entry: usize,
-        start: usize,
-        len: usize,
-    },
-    Missing,
-}
-
-// What a search finds: the entry with the key, or that too few slots are lent to it.
-#[derive(Drop)]
-pub enum Sought {
-    Found(Hit),
-    TooFew,
-}
-
 // Why a lookup answers as it does, the first of these that holds: the file's length is not the record's; the rule's nodes are no tree; fewer
-// slots are lent than the search uses; the rule divides by zero; no entry has the key; the entry stores no segment of that form; the entry, the
-// form, and the segment's start and length.
+// slots are lent than the index uses, where one is; the rule takes a remainder by zero; no entry has the key; the entry stores no segment of
+// that form; the entry, the form, and the segment's start and length.
 #[derive(Drop)]
 pub enum Reason {
     StaleLength,
@@ -37,22 +25,14 @@ pub enum Reason {
     IndexRoom,
     ZeroModulus,
     NoEntry,
-    TooFewSegments {
-        entry: usize,
-        form: u64,
-    },
-    Answered {
-        entry: usize,
-        form: u64,
-        start: usize,
-        len: usize,
-    },
+    TooFewSegments(usize),
+    Answered(usize, u64, usize, usize),
 }
 
 // The text that answers: a segment of the file, its start and its length, or the caller's id or plural id.
 #[derive(Drop)]
 pub enum Text {
-    Segment { start: usize, len: usize },
+    Segment(usize, usize),
     Id,
     PluralId,
 }
@@ -61,19 +41,14 @@ pub enum Text {
 fn by_entry(file: &[u8], hit: Hit, form: u64) -> Reason
     ensures { result ≡ by_entry file.now form hit }
 {
-    let Hit::At { entry, start, len } = hit else {
+    let Hit::At(entry, start, len) = hit else {
         return Reason::NoEntry;
     };
     let segment = container_layout::segment_at(file, start, len, form);
-    let Stretch::At { start: at, len: n } = segment else {
-        return Reason::TooFewSegments { entry, form };
+    let Stretch::At(at, n) = segment else {
+        return Reason::TooFewSegments(entry);
     };
-    Reason::Answered {
-        entry,
-        form,
-        start: at,
-        len: n,
-    }
+    Reason::Answered(entry, form, at, n)
 }
 
 // What follows from the rule's value, and where it is a form from the entry with the key.
@@ -87,7 +62,7 @@ fn by_rule(file: &[u8], value: Resolved, hit: Hit) -> Reason
     }
 }
 
-// Too few slots are refused before a zero divisor, and after nodes that are no tree.
+// Too few slots are refused before a remainder by zero, and after nodes that are no tree.
 fn few_slots(value: Resolved) -> Reason
     ensures { result ≡ few_slots value }
 {
@@ -97,20 +72,103 @@ fn few_slots(value: Resolved) -> Reason
     Reason::IndexRoom
 }
 
-// Why a lookup in a file by these tables answers as it does, after the rule's value at the count (form 0 without one) and the search for the key.
-pub fn after(file: &[u8], t: Tables, value: Resolved, sought: Sought) -> Reason
-    ensures { result ≡ after file.now t value sought }
+// The same as `by_rule`, of what was sought in lent slots.
+fn by_slots(file: &[u8], value: Resolved, sought: Sought) -> Reason
+    ensures { result ≡ by_slots file.now value sought }
 {
-    if container_layout::is_stale(file, t) {
-        return Reason::StaleLength;
-    }
     let Sought::Found(hit) = sought else {
         return few_slots(value);
     };
     by_rule(file, value, hit)
 }
 
-// Its number.
+// A lookup without a count: `gettext`, and with a context `pgettext`.
+pub fn find(file: &[u8], t: Tables, given: bool, context: &[u8], id: &[u8]) -> Reason
+    ensures { result ≡ singular file.now t (last_with file.now t (key_of given context.now id.now)) }
+{
+    if file.len() != t.length {
+        return Reason::StaleLength;
+    }
+    let hit = lookup_scan::last_hit(file, t, given, context, id);
+    by_entry(file, hit, 0)
+}
+
+// A lookup with a count: `ngettext`, and with a context `npgettext`. The rule is resolved before the key is sought.
+pub fn nfind<'a, 'b>(
+    file: &'a [u8],
+    t: Tables,
+    codes: &'b [u8; 512],
+    places: &'b [u16; 1024],
+    values: &'b [u64; 512],
+    nodes: usize,
+    root: usize,
+    given: bool,
+    context: &'a [u8],
+    id: &'a [u8],
+    n: u64,
+) -> Reason
+    ensures { result ≡ plural file.now t (resolved_of (pool codes.now places.now values.now) nodes root n)
+        (last_with file.now t (key_of given context.now id.now)) }
+{
+    if t.length != file.len() {
+        return Reason::StaleLength;
+    }
+    let resolved = rules_value::resolve(codes, places, values, nodes, root, n);
+    let Resolved::Form(form) = resolved else {
+        return by_rule(file, resolved, Hit::Missing);
+    };
+    let hit = lookup_scan::last_hit(file, t, given, context, id);
+    by_rule(file, Resolved::Form(form), hit)
+}
+
+// A lookup without a count in lent slots.
+pub fn find_indexed(
+    file: &[u8],
+    t: Tables,
+    slots: &[u32],
+    given: bool,
+    context: &[u8],
+    id: &[u8],
+) -> Reason
+    ensures { result ≡ singular_in file.now t
+        (sought_in file.now t slots.now (key_of given context.now id.now)) }
+{
+    let size = file.len();
+    if size != t.length {
+        return Reason::StaleLength;
+    }
+    let sought = lookup_index::find(file, t, slots, given, context, id);
+    by_slots(file, Resolved::Form(0), sought)
+}
+
+// A lookup with a count in lent slots.
+pub fn nfind_indexed<'a, 'b>(
+    file: &'a [u8],
+    t: Tables,
+    slots: &'a [u32],
+    codes: &'b [u8; 512],
+    places: &'b [u16; 1024],
+    values: &'b [u64; 512],
+    nodes: usize,
+    root: usize,
+    given: bool,
+    context: &'a [u8],
+    id: &'a [u8],
+    n: u64,
+) -> Reason
+    ensures { result ≡ plural_in file.now t (resolved_of (pool codes.now places.now values.now) nodes root n)
+        (sought_in file.now t slots.now (key_of given context.now id.now)) }
+{
+    let size = file.len();
+    if t.length != size {
+        return Reason::StaleLength;
+    }
+    let value = rules_value::resolve(codes, places, values, nodes, root, n);
+    let sought = lookup_index::find(file, t, slots, given, context, id);
+    by_slots(file, value, sought)
+}
+
+// The number, or document 02's.
 pub fn number_of(reason: Reason) -> u32
     ensures { result ≡ number reason }
 {
@@ -120,8 +178,8 @@ pub fn number_of(reason: Reason) -> u32
         Reason::IndexRoom => refusal::number_of(Error::IndexRoom),
         Reason::ZeroModulus => refusal::number_of(Error::ZeroModulus),
         Reason::NoEntry => 0,
-        Reason::TooFewSegments { .. } => 0,
-        Reason::Answered { .. } => 0,
+        Reason::TooFewSegments(entry) => 0,
+        Reason::Answered(entry, form, start, len) => 0,
     }
 }
 
@@ -129,10 +187,10 @@ pub fn number_of(reason: Reason) -> u32
 fn text_or(reason: Reason, own: Text) -> Text
     ensures { result ≡ text_or own reason }
 {
-    let Reason::Answered { start, len, .. } = reason else {
+    let Reason::Answered(entry, form, start, len) = reason else {
         return own;
     };
-    Text::Segment { start, len }
+    Text::Segment(start, len)
 }
 
 // Without a count the caller's own text is the id.
@@ -158,7 +216,7 @@ pub fn text_of<'a>(file: &'a [u8], id: &'a [u8], plural_id: &'a [u8], text: Text
     ensures { IsText file.entry id.entry plural_id.entry text result }
 {
     match text {
-        Text::Segment { start, len } => {
+        Text::Segment(start, len) => {
             if file.len() < start {
                 return id;
             }

@@ -7,25 +7,24 @@ use mathlib.Core.Option.{none}
 use native.Mathlib.Omega.{arith}
 use lib.ListN.{length, take, drop, length-append}
 use lib.Seq.{take_at}
-use lib.Dec.{ltb, leb}
-use borrow.Author.Tests.{ltb-true, lt-ltb, le-ltb, leb-true, le-leb}
+use lib.Dec.{eqb, ltb, leb}
+use borrow.Author.Tests.{eq-eqb, ltb-true, lt-ltb, le-ltb, leb-true, le-leb}
 use Rattle.text.proofs.Tests.{never, taken, left, by_test}
-use Rattle.container_layout.specs.Mo.{stale, entry}
+use Rattle.container_layout.specs.Mo.{entry}
 use Rattle.container_layout.specs.declared.Entry.{Entry}
 use Rattle.container_layout.specs.declared.Entry.TheVariants as entries
 use Rattle.container_layout.specs.declared.Tables.{Tables}
-use Rattle.container_layout.proofs.Stale.{fresh}
-use Rattle.lookup.specs.Keys.{is_key, hit_of}
-use Rattle.lookup_scan.specs.Last.{last_in, last_with}
-use Rattle.lookup.specs.declared.Hit.{Hit}
-use Rattle.lookup.specs.declared.Hit.TheVariants as hit
-use Rattle.lookup.proofs.Entered.{keyed_told, Entered, Sound}
+use Rattle.lookup_scan.specs.Keys.{is_key, hit_of, last_in, last_with}
+use Rattle.lookup_scan.specs.declared.Hit.{Hit}
+use Rattle.lookup_scan.specs.declared.Hit.TheVariants as hit
+use Rattle.lookup_scan.proofs.Entries.{keyed_told}
+use Rattle.lookup_scan.proofs.Last.{Entered, Sound}
 use Rattle.lookup_slots.specs.Used.{used}
 use Rattle.lookup_slots.specs.Slots.{has, walk, last, built}
 use Rattle.lookup_slots.proofs.Used.{used_more}
 use Rattle.lookup_slots.proofs.Built.{Holds, walk_holds, walk_built, built_length, last_here, last_on}
 use Rattle.lookup_index.specs.Index.{key_in, key_at, index, hit_in, indexed, sought_in, building, leaves}
-use Rattle.lookup.specs.declared.Sought.TheVariants as sought
+use Rattle.lookup_index.specs.declared.Sought.TheVariants as sought
 use Rattle.lookup_index.specs.declared.Building.TheVariants as went
 
 module _ (s : List ℕ) (t : Tables) where
@@ -92,7 +91,7 @@ module _ (s : List ℕ) (t : Tables) where
   -- building succeeds where the length is the record's and enough slots are lent
   pub built_exactly : (lent : ℕ) → length s ≡ t.length → used t.count ≤ lent → building s t lent ≡ went.Built
   unfolding building
-  built_exactly lent e l = left _ _ (fresh s t e) ∙ taken _ _ (le-leb (used t.count) lent l)
+  built_exactly lent e l = taken _ _ (eq-eqb (length s) t.length e) ∙ taken _ _ (le-leb (used t.count) lent l)
 
   -- The same of slots that are lent: `find` in slots that `build` left answers as the scan
   module _ (lent : List ℕ) (b : building s t (length lent) ≡ went.Built) where
@@ -100,13 +99,13 @@ module _ (s : List ℕ) (t : Tables) where
     unfolding building
     enough =
         by_test (used t.count ≤ length lent) (leb (used t.count) (length lent)) (λ e. leb-true (used t.count) (length lent) e)
-        (λ e. absurd (refused (stale s t) (leb (used t.count) (length lent)) e b))
+        (λ e. absurd (refused (eqb (length s) t.length) (leb (used t.count) (length lent)) e b))
       where
         refused : (u v : Bool) → v ≡ false
-            → elim u [ true ↦ went.StaleLength | false ↦ elim v [ true ↦ went.Built | false ↦ went.TooFew ] ] ≡ went.Built → ⊥
-        refused false true e f = never (sym e)
-        refused false false e f = let z : ◌≡◌ {A = ℕ} 0 1 = cc in omega arith
-        refused true v e f = let z : ◌≡◌ {A = ℕ} 0 1 = cc in omega arith
+            → elim u [ true ↦ elim v [ true ↦ went.Built | false ↦ went.TooFew ] | false ↦ went.StaleLength ] ≡ went.Built → ⊥
+        refused true true e f = never (sym e)
+        refused true false e f = let z : ◌≡◌ {A = ℕ} 0 1 = cc in omega arith
+        refused false v e f = let z : ◌≡◌ {A = ℕ} 0 1 = cc in omega arith
 
     pub built_as_scan : (key : List ℕ) → sought_in s t (leaves s t lent went.Built) key ≡ sought.Found (last_with s t key)
     unfolding sought_in

@@ -1,4 +1,4 @@
--- The file F of SPEC 17 with an index, by computing; where "a" goes was computed apart: 5381 * 33 + 97 is even. Assumes nothing.
+-- Document 01's file F with an index, by computing; where "a" goes was computed apart: 5381 * 33 + 97 is even. Assumes nothing.
 use Prim.Native.Nat.{ℕ}
 use mathlib.Core.Path.{◌≡◌, refl}
 use mathlib.Core.Bool.{false}
@@ -6,12 +6,12 @@ use mathlib.Core.List.{List, [], ◌∷◌}
 use Rattle.text.specs.Bytes.{bytes, same, front}
 use Rattle.container_layout.specs.Mo.{word, string, id_start, id_end, entry}
 use Rattle.container_layout.specs.declared.Tables.{Tables}
-use Rattle.lookup.specs.declared.Hit.TheVariants as hit
+use Rattle.lookup_scan.specs.declared.Hit.TheVariants as hit
 use Rattle.lookup_slots.specs.Hash.{hash_from}
 use Rattle.lookup_slots.specs.Used.{used}
 use Rattle.lookup_slots.specs.Slots.{first, place, built}
 use Rattle.lookup_index.specs.Index.{key_at, index, indexed, sought_in, building, leaves, number}
-use Rattle.lookup.specs.declared.Sought.TheVariants as sought
+use Rattle.lookup_index.specs.declared.Sought.TheVariants as sought
 use Rattle.lookup_index.specs.declared.Building.TheVariants as went
 
 abbrev file_f : List ℕ

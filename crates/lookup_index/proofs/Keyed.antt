@@ -24,7 +24,7 @@ use Rattle.container_layout.specs.declared.Parts.{Parts}
 use Rattle.container_layout.specs.declared.Tables.{Tables}
 use Rattle.container_layout.proofs.Entries.{original_part, original_length}
 use Rattle.container_layout.proofs.Marks.{plain_nul, from_start, part_plain, marked_nul}
-use Rattle.container_layout.proofs.Made.{key_inside}
+use Rattle.lookup_scan.proofs.Entries.{key_inside}
 use Rattle.lookup_slots.specs.Hash.{hash}
 use Rattle.lookup_slots.specs.Promise.{Hashes}
 use Rattle.lookup_index.specs.Index.{key_in, key_at}

@@ -1,19 +1,18 @@
 -- The slots that are lent, of which the first are used: so many that their number is a power of two. Assumes nothing.
 use Prim.Native.Nat.{ℕ, ◌-◌, ◌%◌, ◌^◌, ◌<◌, ◌≤◌}
 use mathlib.Core.Path.{◌≡◌, refl, sym, ap, ◌∙◌}
-use mathlib.Core.Bool.{Bool, true, false}
+use mathlib.Core.Bool.{true, false}
 use mathlib.Core.List.{List, ◌++◌}
 use native.Mathlib.Omega.{arith}
 use native.Mathlib.Nat.{mod-lt}
 use lib.ListN.{length, take, drop}
 use lib.Seq.{length-take-le}
 use lib.Bits.{bit_and, and_mask}
-use lib.Dec.{leb}
-use borrow.Author.Tests.{leb-true}
+use lib.Dec.{eqb, leb}
+use borrow.Author.Tests.{leb-true, eq-eqb, ne_eqb}
 use Rattle.text.proofs.Tests.{taken, left, by_test}
-use Rattle.container_layout.specs.Mo.{stale}
 use Rattle.container_layout.specs.declared.Tables.{Tables}
-use Rattle.lookup.specs.declared.Hit.{Hit}
+use Rattle.lookup_scan.specs.declared.Hit.{Hit}
 use Rattle.lookup_slots.specs.Used.{used}
 use Rattle.lookup_slots.specs.Promise.{room_in}
 use Rattle.lookup_slots.specs.Slots.{built}
@@ -22,7 +21,7 @@ use Rattle.lookup_slots.specs.declared.Room.TheVariants as room
 use Rattle.lookup_slots.proofs.Used.{power_positive, used_smallest}
 use Rattle.lookup_index.specs.Index.{key_at, index, indexed, sought_in, building, leaves}
 use Rattle.lookup_index.specs.Private.{Power}
-use Rattle.lookup.specs.declared.Sought.TheVariants as sought
+use Rattle.lookup_index.specs.declared.Sought.TheVariants as sought
 use Rattle.lookup_index.specs.declared.Building.{Building}
 use Rattle.lookup_index.specs.declared.Building.TheVariants as went
 
@@ -38,9 +37,9 @@ pub power_same : {m n : ℕ} → m ≡ n → Power n → Power m
 power_same e p = record { bits = p.bits; is = e ∙ p.is }
 
 -- a file of another length is refused before the slots are counted
-pub build_stale : (s : List ℕ) (t : Tables) (lent : ℕ) {b : Bool} → b ≡ stale s t → b ≡ true → went.StaleLength ≡ building s t lent
+pub build_stale : (s : List ℕ) (t : Tables) (lent : ℕ) → (length s ≡ t.length → ⊥) → went.StaleLength ≡ building s t lent
 unfolding building
-build_stale s t lent e f = sym (taken _ _ (sym e ∙ f))
+build_stale s t lent e = sym (left _ _ (ne_eqb (length s) t.length e))
 
 -- the room in the slots lent, as the code has it
 module _ (s : List ℕ) (t : Tables) (lent : List ℕ) {r : Room} (e : r ≡ room_in t.count (length lent)) where
@@ -55,9 +54,9 @@ module _ (s : List ℕ) (t : Tables) (lent : List ℕ) {r : Room} (e : r ≡ roo
   unfolding sought_in
   sought_none key f = sym (left _ _ (room_none f))
 
-  pub build_none : {b : Bool} → b ≡ stale s t → b ≡ false → r ≡ room.TooFew → went.TooFew ≡ building s t (length lent)
+  pub build_none : length s ≡ t.length → r ≡ room.TooFew → went.TooFew ≡ building s t (length lent)
   unfolding building
-  build_none g l f = sym (left _ _ (sym g ∙ l) ∙ left _ _ (room_none f))
+  build_none l f = sym (taken _ _ (eq-eqb (length s) t.length l) ∙ left _ _ (room_none f))
 
   record Taken (size : ℕ) : Type 0 where
     test : leb (used t.count) (length lent) ≡ true
@@ -88,9 +87,9 @@ module _ (s : List ℕ) (t : Tables) (lent : List ℕ) {r : Room} (e : r ≡ roo
         ap sought.Found (g ∙ ap (λ (n : ℕ). indexed s t (take n lent) key) (room_taken f).is)
         ∙ sym (taken _ sought.TooFew (room_taken f).test)
 
-    pub build_done : {b : Bool} → b ≡ stale s t → b ≡ false → went.Built ≡ building s t (length lent)
+    pub build_done : length s ≡ t.length → went.Built ≡ building s t (length lent)
     unfolding building
-    build_done g l = sym (left _ _ (sym g ∙ l) ∙ taken _ _ (room_taken f).test)
+    build_done l = sym (taken _ _ (eq-eqb (length s) t.length l) ∙ taken _ _ (room_taken f).test)
 
     -- the part comes back, before the slots that are not used
     pub given_back : {y : List ℕ} → y ≡ built (key_at s t) (length (take size lent)) t.count → y ++ drop size lent ≡ leaves s t lent went.Built

@@ -12,12 +12,11 @@ use Rattle.container_layout.specs.Mo.{entry}
 use Rattle.container_layout.specs.declared.Entry.{Entry}
 use Rattle.container_layout.specs.declared.Entry.TheVariants as entries
 use Rattle.container_layout.specs.declared.Tables.{Tables}
-use Rattle.lookup.specs.Keys.{key_of, is_key, hit_of}
+use Rattle.lookup_scan.specs.Keys.{key_of, is_key, hit_of}
 use Rattle.lookup_scan.specs.Promise.{hit_if}
-use Rattle.lookup.specs.declared.Hit.{Hit}
-use Rattle.lookup.specs.declared.Hit.TheVariants as hit
-use Rattle.lookup.proofs.Entered.{has_told}
-use Rattle.lookup_scan.proofs.Entries.{shorter}
+use Rattle.lookup_scan.specs.declared.Hit.{Hit}
+use Rattle.lookup_scan.specs.declared.Hit.TheVariants as hit
+use Rattle.lookup_scan.proofs.Entries.{shorter, has_told}
 use Rattle.lookup_slots.specs.Hash.{hash_from, hash}
 use Rattle.lookup_slots.specs.Promise.{Hashes}
 use Rattle.lookup_slots.specs.Slots.{next, first, has, stops, place, walk}

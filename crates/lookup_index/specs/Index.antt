@@ -1,19 +1,19 @@
 -- The index of a catalog, and a lookup in slots that are lent. SPEC 10.
-use Rattle.std.specs.Prelude.{ℕ, zero, suc, true, false, List, ◌++◌, length, take, drop, ltb, leb}
+use Rattle.std.specs.Prelude.{ℕ, zero, suc, true, false, List, ◌++◌, length, take, drop, eqb, ltb, leb}
 use Rattle.std.proofs.Math.Option.{Option, none, some}
 use Rattle.refusal.specs.Numbers.{number_of}
 use Rattle.refusal.specs.declared.Error.TheVariants as error
-use Rattle.container_layout.specs.Mo.{stale, entry}
+use Rattle.container_layout.specs.Mo.{entry}
 use Rattle.container_layout.specs.declared.Entry.{Entry}
 use Rattle.container_layout.specs.declared.Entry.TheVariants as entries
 use Rattle.container_layout.specs.declared.Tables.{Tables}
-use Rattle.lookup.specs.Keys.{hit_of}
-use Rattle.lookup.specs.declared.Hit.{Hit}
-use Rattle.lookup.specs.declared.Hit.TheVariants as hit
+use Rattle.lookup_scan.specs.Keys.{hit_of}
+use Rattle.lookup_scan.specs.declared.Hit.{Hit}
+use Rattle.lookup_scan.specs.declared.Hit.TheVariants as hit
 use Rattle.lookup_slots.specs.Used.{used}
 use Rattle.lookup_slots.specs.Slots.{built, walk}
-use Rattle.lookup.specs.declared.Sought.{Sought}
-use Rattle.lookup.specs.declared.Sought.TheVariants as sought
+use Rattle.lookup_index.specs.declared.Sought.{Sought}
+use Rattle.lookup_index.specs.declared.Sought.TheVariants as sought
 use Rattle.lookup_index.specs.declared.Building.{Building}
 use Rattle.lookup_index.specs.declared.Building.TheVariants as went
 
@@ -52,7 +52,10 @@ sought_in s t lent key =
 unfoldable pub building : List ℕ → Tables → ℕ → Building
 unfolding used
 building s t lent =
-    elim (stale s t) [ true ↦ went.StaleLength | false ↦ elim (leb (used t.count) lent) [ true ↦ went.Built | false ↦ went.TooFew ] ]
+    elim (eqb (length s) t.length) [
+      | true ↦ elim (leb (used t.count) lent) [ true ↦ went.Built | false ↦ went.TooFew ]
+      | false ↦ went.StaleLength
+    ]
 
 -- what it leaves in the slots lent: those that are not used stay, and after a refusal all of them
 abbrev pub leaves : List ℕ → Tables → List ℕ → Building → List ℕ

@@ -4,9 +4,9 @@ use Rattle.container_layout.specs.Mo.{original, id_end, ended, entry}
 use Rattle.container_layout.specs.declared.Entry.{Entry}
 use Rattle.container_layout.specs.declared.Entry.TheVariants as entries
 use Rattle.container_layout.specs.declared.Tables.{Tables}
-use Rattle.lookup.specs.Keys.{hit_of}
-use Rattle.lookup.specs.declared.Hit.{Hit}
-use Rattle.lookup.specs.declared.Hit.TheVariants as hit
+use Rattle.lookup_scan.specs.Keys.{hit_of}
+use Rattle.lookup_scan.specs.declared.Hit.{Hit}
+use Rattle.lookup_scan.specs.declared.Hit.TheVariants as hit
 use Rattle.lookup_slots.specs.Hash.{hash}
 use Rattle.lookup_slots.specs.Slots.{next, has, place}
 use Rattle.lookup_index.specs.Index.{key_at, indexed}

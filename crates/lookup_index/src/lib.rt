@@ -2,7 +2,7 @@
 // both. A slot holds an entry's index plus 1, or 0.
 ghost use Rattle.std.specs.Prelude.{◌≡◌, ◌+◌, ◌%◌, ◌<◌, length};
 ghost use Rattle.container_layout.specs.Mo.{entry};
-ghost use Rattle.lookup.specs.Keys.{key_of};
+ghost use Rattle.lookup_scan.specs.Keys.{key_of};
 ghost use Rattle.lookup_slots.specs.Hash.{hash};
 ghost use Rattle.lookup_slots.specs.Promise.{Hashes};
 ghost use Rattle.lookup_slots.specs.Slots.{insert, zeros, built};
@@ -10,11 +10,17 @@ ghost use Rattle.lookup_index.specs.Index.{key_at, indexed, sought_in, building,
 ghost use Rattle.lookup_index.specs.Private.{before_id, Power, Next, named, Stops, key_of_original, key_of_entry};
 
 use container_layout::{Tables, wide};
-use lookup::{Hit, Sought};
-use lookup_scan::Size;
+use lookup_scan::{Hit, Size};
 use lookup_slots::Room;
 use refusal::Error;
 use text::Stretch;
+
+// What a lookup in lent slots finds: the entry with the key, or that too few slots are lent.
+#[derive(Drop)]
+pub enum Sought {
+    Found(Hit),
+    TooFew,
+}
 
 // How building went: the slots are set; the file's length is not the record's; too few slots are lent.
 #[derive(Drop)]
@@ -119,10 +125,10 @@ fn search(
             };
         }
         let hit = named_by(file, t, x, n, given, context, id);
-        if let Hit::At { entry, start, len } = hit {
+        if let Hit::At(entry, start, len) = hit {
             return Stop {
                 place: p,
-                hit: Hit::At { entry, start, len },
+                hit: Hit::At(entry, start, len),
             };
         }
         p = next_of(p, m);
@@ -163,11 +169,7 @@ pub fn find(file: &[u8], t: Tables, slots: &[u32], given: bool, context: &[u8], 
 // Where the key of an entry lies, how long it is, and its hash.
 #[derive(Drop)]
 enum Key {
-    At {
-        start: usize,
-        len: usize,
-        hash: usize,
-    },
+    At(usize, usize, usize),
     NoKey,
 }
 
@@ -182,11 +184,7 @@ fn key_by_marks(file: &[u8], at: usize, len: usize) -> Key
         return Key::NoKey;
     }
     let end = at + parts.end;
-    Key::At {
-        start: at,
-        len: parts.end,
-        hash: lookup_slots::hash_from(5381, &file[at..end]),
-    }
+    Key::At(at, parts.end, lookup_slots::hash_from(5381, &file[at..end]))
 }
 
 // The same: an original without a byte below 5, which is told in the pass that hashes it, has no mark, and where a NUL comes after it, it is the key.
@@ -198,11 +196,7 @@ fn key_in(file: &[u8], at: usize, len: usize) -> Key
     if file[end] == 0 {
         let hash = lookup_slots::hash_plain(5381, &file[at..end]);
         if hash.plain {
-            return Key::At {
-                start: at,
-                len,
-                hash: hash.value,
-            };
+            return Key::At(at, len, hash.value);
         }
     }
     key_by_marks(file, at, len)
@@ -213,11 +207,11 @@ fn key_at(file: &[u8], t: Tables, i: usize) -> Key
     ensures { result ≡ key_of_entry file.now (entry file.now t i) }
 {
     let original = container_layout::string_at(file, t.big, t.originals, i);
-    let Stretch::At { start: at, len } = original else {
+    let Stretch::At(at, len) = original else {
         return Key::NoKey;
     };
     let translation = container_layout::string_at(file, t.big, t.translations, i);
-    let Stretch::At { start, len: size } = translation else {
+    let Stretch::At(start, size) = translation else {
         return Key::NoKey;
     };
     key_in(file, at, len)
@@ -230,12 +224,7 @@ fn put(file: &[u8], t: Tables, i: usize, slots: &mut [u32])
     ensures { slots.new ≡ insert (key_at file.now t) i (key_at file.now t i) slots.old }
 {
     let found = key_at(file, t, i);
-    let Key::At {
-        start: at,
-        len: n,
-        hash: h,
-    } = found
-    else {
+    let Key::At(at, n, h) = found else {
         return;
     };
     let end = at + n;
@@ -276,7 +265,7 @@ pub fn build(file: &[u8], t: Tables, slots: &mut [u32]) -> Building
     ensures result { result ≡ building file.now t (length slots.old) }
     ensures left { slots.new ≡ leaves file.now t slots.old result }
 {
-    if container_layout::is_stale(file, t) {
+    if file.len() != t.length {
         return Building::StaleLength;
     }
     let room = lookup_slots::room_for(t.count, slots.len());

@@ -18,7 +18,7 @@ use Rattle.text.proofs.Walk.{rest_at}
 use Rattle.text.proofs.Same.{same_true, same_refl}
 use Rattle.container_layout.specs.Mo.{id_end}
 use Rattle.container_layout.proofs.Marks.{without, with_context}
-use Rattle.lookup.specs.Keys.{key_of}
+use Rattle.lookup_scan.specs.Keys.{key_of}
 use Rattle.lookup_scan.specs.Private.{Ending, has_from, has_key, InContext}
 
 -- a byte below 5 is none of those from 5 on

@@ -17,17 +17,19 @@ use Rattle.text.specs.declared.Stretch.{Stretch}
 use Rattle.text.specs.declared.Stretch.TheVariants as stretch
 use Rattle.container_layout.proofs.Cells.{string_told}
 use Rattle.container_layout.proofs.Entries.{original_part, original_length, is_entry}
-use Rattle.lookup.specs.Keys.{is_key}
+use Rattle.lookup_scan.specs.Keys.{is_key}
 use Rattle.lookup_scan.specs.Promise.{hit_if}
 use Rattle.lookup_scan.specs.Private.{Starts, Ending, has_key}
-use Rattle.lookup.specs.declared.Hit.TheVariants as hit
-use Rattle.container_layout.proofs.Made.{Made, made}
-use Rattle.lookup.proofs.Entered.{Keyed, keyed_told}
-use Rattle.lookup_scan.proofs.Entries.{is_false}
+use Rattle.lookup_scan.specs.declared.Hit.TheVariants as hit
+use Rattle.lookup_scan.proofs.Entries.{Made, made, Keyed, keyed_told}
 use Rattle.lookup_scan.proofs.Ends.{has_key_lem, key_has}
 use Rattle.lookup_scan.proofs.Scan.{hit_false, told_key}
 
 -- by what an entry with the key is made of
+is_false : (b : Bool) → (b ≡ true → ⊥) → b ≡ false
+is_false true h = absurd (h refl)
+is_false false h = refl
+
 module _ (s : List ℕ) (t : Tables) (key : List ℕ) (i : ℕ) {a l n : ℕ} (z : n ≡ length key) (g : Starts s t i a l n) where
   -- the original is that of the entry
   same_place : (k : Keyed s t key i) → (k.has.at ≡ a) × ((made s t i k.has.entry).len ≡ l)

@@ -11,7 +11,7 @@ use borrow.Author.Tests.{ne_eqb}
 use Rattle.text.specs.Bytes.{same}
 use Rattle.text.proofs.Tests.{never, and_none, and_assoc}
 use Rattle.text.proofs.Same.{other_length}
-use Rattle.lookup.specs.Keys.{key_of}
+use Rattle.lookup_scan.specs.Keys.{key_of}
 use Rattle.lookup_scan.specs.Promise.{Sized}
 use Rattle.lookup_scan.specs.Private.{InContext}
 use Rattle.lookup_scan.specs.declared.Size.{Size}

@@ -12,11 +12,18 @@ use Rattle.container_layout.specs.Mo.{entry}
 use Rattle.container_layout.specs.declared.Tables.{Tables}
 use Rattle.container_layout.specs.declared.Entry.{Entry}
 use Rattle.container_layout.specs.declared.Entry.TheVariants as entries
-use Rattle.lookup.specs.Keys.{is_key, hit_of}
-use Rattle.lookup_scan.specs.Last.{last_in, last_with}
-use Rattle.lookup.specs.declared.Hit.{Hit}
-use Rattle.lookup.specs.declared.Hit.TheVariants as hit
-use Rattle.lookup.proofs.Entered.{Has, keyed_told, has_told, Sound}
+use Rattle.lookup_scan.specs.Keys.{is_key, hit_of, last_in, last_with}
+use Rattle.lookup_scan.specs.declared.Hit.{Hit}
+use Rattle.lookup_scan.specs.declared.Hit.TheVariants as hit
+use Rattle.lookup_scan.proofs.Entries.{Has, keyed_told, has_told}
+
+-- a hit, by whatever search, is an entry below the count that has the key
+pub record Entered (s : List ℕ) (t : Tables) (key : List ℕ) (i start len : ℕ) : Type 0 where
+  pub below : i < t.count
+  pub has : Has s t key i start len
+
+pub record Sound (s : List ℕ) (t : Tables) (key : List ℕ) (h : Hit) : Type 0 where
+  pub told : (i start len : ℕ) → h ≡ hit.At i start len → Entered s t key i start len
 
 -- of the entries below k, entry i is the last that has the key
 pub record Last (s : List ℕ) (t : Tables) (key : List ℕ) (k i start len : ℕ) : Type 0 where

@@ -4,5 +4,4 @@ pub mod Entries
 pub mod Last
 pub mod Scan
 pub mod Found
-pub mod Lookups
 pub mod Unique

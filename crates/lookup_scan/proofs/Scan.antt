@@ -13,13 +13,12 @@ use Rattle.container_layout.specs.declared.Entry.{Entry}
 use Rattle.container_layout.specs.declared.Entry.TheVariants as entries
 use Rattle.text.specs.declared.Stretch.TheVariants as stretch
 use Rattle.container_layout.proofs.Cells.{no_cell}
-use Rattle.lookup.specs.Keys.{is_key, hit_of}
-use Rattle.lookup_scan.specs.Last.{last_in, last_with}
+use Rattle.lookup_scan.specs.Keys.{is_key, hit_of, last_in, last_with}
 use Rattle.lookup_scan.specs.Promise.{hit_if}
 use Rattle.lookup_scan.specs.Private.{MayBe, ScanFrom}
 use Rattle.container_layout.specs.declared.Tables.{Tables}
-use Rattle.lookup.specs.declared.Hit.{Hit}
-use Rattle.lookup.specs.declared.Hit.TheVariants as hit
+use Rattle.lookup_scan.specs.declared.Hit.{Hit}
+use Rattle.lookup_scan.specs.declared.Hit.TheVariants as hit
 use Rattle.lookup_scan.proofs.Entries.{shorter, no_string}
 use Rattle.lookup_scan.proofs.Last.{last_here, last_before, last_from, none_missing}
 

@@ -1,3 +1,3 @@
-pub mod Last
+pub mod Keys
 pub mod Promise
 pub mod Private

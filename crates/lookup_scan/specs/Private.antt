@@ -1,7 +1,7 @@
 -- What the functions behind the public ones promise.
 use Rattle.std.specs.Prelude.{ℕ, ◌+◌, ◌-◌, ◌<◌, ◌≤◌, ◌≡◌, Bool, true, false, ◌&&◌, List, length, get_or, take, drop, eqb, leb}
 use Rattle.text.specs.Bytes.{same}
-use Rattle.lookup.specs.Keys.{key_of, is_key}
+use Rattle.lookup_scan.specs.Keys.{key_of, is_key}
 use Rattle.container_layout.specs.Mo.{has_cell, string, entry, id_end}
 use Rattle.text.specs.declared.Stretch.TheVariants as stretch
 use Rattle.container_layout.specs.declared.Tables.{Tables}

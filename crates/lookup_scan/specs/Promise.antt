@@ -1,9 +1,9 @@
 -- What the functions of this crate promise to other searches for a key.
 use Rattle.std.specs.Prelude.{ℕ, ◌<◌, ◌≤◌, ◌≡◌, true, false, List, length}
-use Rattle.lookup.specs.Keys.{is_key, hit_of}
+use Rattle.lookup_scan.specs.Keys.{is_key, hit_of}
 use Rattle.container_layout.specs.Mo.{entry}
-use Rattle.lookup.specs.declared.Hit.{Hit}
-use Rattle.lookup.specs.declared.Hit.TheVariants as hit
+use Rattle.lookup_scan.specs.declared.Hit.{Hit}
+use Rattle.lookup_scan.specs.declared.Hit.TheVariants as hit
 use Rattle.container_layout.specs.declared.Tables.{Tables}
 use Rattle.lookup_scan.specs.declared.Size.{Size}
 use Rattle.lookup_scan.specs.declared.Size.TheVariants.{Is, TooLong}

@@ -1,14 +1,19 @@
 // The search for a key: the last entry that has it. From lib.rs: `key_with_context`, and `strings.get` of the lookups; a key is compared
 // where it lies, and nothing is built or copied.
 ghost use Rattle.std.specs.Prelude.{◌≡◌, true, ◌+◌, ◌<◌, ◌≤◌, length};
-ghost use Rattle.lookup.specs.Keys.{key_of};
-ghost use Rattle.lookup_scan.specs.Last.{last_with};
+ghost use Rattle.lookup_scan.specs.Keys.{key_of, last_with};
 ghost use Rattle.lookup_scan.specs.Promise.{Sized, hit_if};
 ghost use Rattle.lookup_scan.specs.Private.{InContext, Lesser, ends_after, MayBe, ScanFrom, Ending, has_from, has_key, Starts};
 
 use container_layout::{Tables, wide};
-use lookup::Hit;
 use text::Stretch;
+
+// The entry with a key, and where its translation lies.
+#[derive(Drop)]
+pub enum Hit {
+    At(usize, usize, usize),
+    Missing,
+}
 
 // The length of a key, unless it is as long as the file.
 #[derive(Drop)]
@@ -75,7 +80,7 @@ fn may_be(file: &[u8], t: Tables, i: usize, n: usize) -> bool
     ensures { MayBe file.now t i n result }
 {
     let original = container_layout::string_at(file, t.big, t.originals, i);
-    let Stretch::At { start: at, len } = original else {
+    let Stretch::At(at, len) = original else {
         return false;
     };
     ends_after(file, at, len, n)
@@ -103,7 +108,7 @@ fn has_in_context(o: &[u8], n: usize, context: &[u8], id: &[u8]) -> bool
         return false;
     }
     let from = context.len() + 1;
-    if text::equal_at_least(&o[from..n], id, 5) {
+    if text::same_from(&o[from..n], id, 5) {
         if text::all_within(context, 5, 0xFF) {
             return true;
         }
@@ -126,7 +131,7 @@ fn has_key(o: &[u8], n: usize, given: bool, context: &[u8], id: &[u8]) -> bool
             return false;
         }
     }
-    if text::equal_at_least(&o[..n], id, 5) {
+    if text::same_from(&o[..n], id, 5) {
         return text::find_byte_from(o, n + 1, 4) == o.len();
     }
     has_any_key(o, n, 0, id)
@@ -152,14 +157,10 @@ fn found_at(
         return Hit::Missing;
     }
     let translation = container_layout::string_at(file, t.big, t.translations, i);
-    let Stretch::At { start, len: size } = translation else {
+    let Stretch::At(start, size) = translation else {
         return Hit::Missing;
     };
-    Hit::At {
-        entry: i,
-        start,
-        len: size,
-    }
+    Hit::At(i, start, size)
 }
 
 // Entry i, where it has the key, which is n bytes long: what other searches ask of an entry. Most end at their length, or at the byte after n.
@@ -176,11 +177,7 @@ pub fn hit_at(
     ensures { result ≡ hit_if file.now t (key_of given context.now id.now) i }
 {
     let original = container_layout::string_at(file, t.big, t.originals, i);
-    let Stretch::At {
-        start: at,
-        len: size,
-    } = original
-    else {
+    let Stretch::At(at, size) = original else {
         return Hit::Missing;
     };
     if !ends_after(file, at, size, n) {
@@ -220,8 +217,8 @@ pub fn last_hit(file: &[u8], t: Tables, given: bool, context: &[u8], id: &[u8]) 
         let i = most - passed;
         if may_be(file, t, i, n) {
             let hit = hit_at(file, t, i, n, given, context, id);
-            if let Hit::At { entry, start, len } = hit {
-                return Hit::At { entry, start, len };
+            if let Hit::At(entry, start, len) = hit {
+                return Hit::At(entry, start, len);
             }
         }
     }

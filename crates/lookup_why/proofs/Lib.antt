@@ -1,5 +1,5 @@
 mod Counted
-mod Told
+mod Reasons
 pub mod True
 pub mod Unique
 mod Cases

@@ -1,60 +1,103 @@
--- What is told is true: the reason is the lookup's own, and how many segments an entry stores decides whether a form has one. Assumes nothing.
+-- THE THEOREM: the lookup's own reason is a function of why, so its number and its text are. And what is told beside: how many segments are
+-- stored decides whether a form has one. Assumes nothing.
 use Prim.Native.Nat.{ℕ, zero, suc, ◌+◌, ◌<◌, ◌≤◌}
 use mathlib.Core.Path.{◌≡◌, refl, sym, ap, ◌∙◌}
-use mathlib.Core.List.{List}
+use mathlib.Core.Bool.{Bool, true, false}
+use mathlib.Core.List.{List, [], ◌∷◌}
 use native.Mathlib.Omega.{arith}
 use lib.ListN.{length}
-use Rattle.rules_zero.specs.declared.Traced.{Traced}
-use Rattle.container_layout.specs.Mo.{string, segment, segments}
+use lib.Dec.{eqb, leb}
+use borrow.Author.Tests.{leb-true}
+use Rattle.rules.specs.Pool.{Pool}
+use Rattle.rules.specs.Answer.{resolved_of}
+use Rattle.rules.specs.declared.Resolved.{Resolved}
+use Rattle.rules.specs.declared.Resolved.TheVariants as resolved
+use Rattle.rules_zero.specs.Zero.{zero_at, traced, traced_of}
+use Rattle.container_layout.specs.Mo.{piece_at, segment, segments}
+use Rattle.container_layout.proofs.Forms.{segment_holds, segment_is}
 use Rattle.container_layout.specs.declared.Tables.{Tables}
-use Rattle.container_layout.proofs.Cells.{string_told}
-use Rattle.container_layout.proofs.Forms.{segment_holds, segment_is, no_segment}
+use Rattle.text.specs.declared.Stretch.{Stretch}
 use Rattle.text.specs.declared.Stretch.TheVariants as stretch
+use Rattle.lookup_scan.specs.declared.Hit.{Hit}
+use Rattle.lookup_scan.specs.declared.Hit.TheVariants as hit
+use Rattle.lookup.specs.Lookup as lookup
+use Rattle.lookup.specs.Lookup.{plural, number}
+use Rattle.lookup.specs.Text.{plural_text}
 use Rattle.lookup.specs.declared.Reason.{Reason}
 use Rattle.lookup.specs.declared.Reason.TheVariants as reason
-use Rattle.lookup_why.specs.Why.{segments_in, stored, why_of}
+use Rattle.lookup_why.specs.Why.{stored, by_segment, by_entry, by_rule, why, reason_of}
 use Rattle.lookup_why.specs.declared.Why.{Why}
-use Rattle.lookup_why.specs.declared.Why.TheVariants.{StaleLength, NoTree, ZeroDivisor, NoEntry, TooFewSegments, Answered, IndexRoom}
+use Rattle.lookup_why.specs.declared.Why.TheVariants.{StaleLength}
 
--- the reason that is told
-abbrev pub reason_of : Why → Reason
-reason_of StaleLength = reason.StaleLength
-reason_of NoTree = reason.NoTree
-reason_of IndexRoom = reason.IndexRoom
-reason_of (ZeroDivisor node) = reason.ZeroModulus
-reason_of NoEntry = reason.NoEntry
-reason_of (TooFewSegments i k form) = reason.TooFewSegments i form
-reason_of (Answered i form start len) = reason.Answered i form start len
+same_segment : (i k form : ℕ) (x : Stretch) → reason_of (by_segment i k form x) ≡ lookup.by_segment i form x
+same_segment i k form (stretch.At start len) = refl
+same_segment i k form stretch.Absent = refl
 
--- THE THEOREM: it is the lookup's, so that nothing else is told of another reason
-pub why_true : (s : List ℕ) (t : Tables) (v : Traced) (r : Reason) → reason_of (why_of s t v r) ≡ r
-unfolding why_of
-why_true s t v reason.StaleLength = refl
-why_true s t v reason.NoTree = refl
-why_true s t v reason.IndexRoom = refl
-why_true s t v reason.ZeroModulus = refl
-why_true s t v reason.NoEntry = refl
-why_true s t v (reason.TooFewSegments i form) = refl
-why_true s t v (reason.Answered i form start len) = refl
+same_entry : (s : List ℕ) (form : ℕ) (h : Hit) → reason_of (by_entry s form h) ≡ lookup.by_entry s form h
+same_entry s form (hit.At i start len) = same_segment i (stored s start len) form (segment s start len form)
+same_entry s form hit.Missing = refl
 
--- exactly the forms below the segments stored have one
-module _ (s : List ℕ) (t : Tables) (i start len form : ℕ) (e : string t.big s t.translations i ≡ stretch.At start len) where
-  inside : start + len ≤ length s
-  inside = omega (arith, string_told t.big s t.translations i e)
+same_rule : (s : List ℕ) (v : Resolved) (q : ℕ) (h : Hit) → reason_of (by_rule s (traced v q) h) ≡ lookup.by_rule s v h
+same_rule s (resolved.Form form) q h = same_entry s form h
+same_rule s resolved.ZeroModulus q h = refl
+same_rule s resolved.NoTree q h = refl
 
-  pub stored_is : stored s t i ≡ length (segments s start len)
-  unfolding stored
-  stored_is = ap (segments_in s) e
+module _ (s : List ℕ) (t : Tables) (P : Pool) (nodes root n : ℕ) (h : Hit) where
+  -- the reason of the lookup
+  abbrev pub theirs : Reason
+  theirs = plural s t (resolved_of P nodes root n) h
 
+  -- and why
+  abbrev pub ours : Why
+  ours = why s t (traced_of P nodes root n) h
+
+  pub why_true : theirs ≡ reason_of ours
+  unfolding plural why traced_of
+  why_true = go (eqb (length s) t.length)
+    where
+      go : (b : Bool)
+          → ◌≡◌ {A = Reason}
+          (elim b [ true ↦ lookup.by_rule s (resolved_of P nodes root n) h | false ↦ reason.StaleLength ])
+          (reason_of (elim b [ true ↦ by_rule s (traced (resolved_of P nodes root n) (zero_at P n root)) h | false ↦ StaleLength ]))
+      go true = sym (same_rule s (resolved_of P nodes root n) (zero_at P n root) h)
+      go false = refl
+
+  -- number and text
+  pub why_number : number theirs ≡ number (reason_of ours)
+  why_number = ap number why_true
+
+  pub why_text : plural_text n theirs ≡ plural_text n (reason_of ours)
+  why_text = ap (plural_text n) why_true
+
+-- How many segments an entry stores: exactly the forms below have one.
+none_past : (at k : ℕ) (ps : List (List ℕ)) → length ps ≤ k → piece_at at k ps ≡ stretch.Absent
+unfolding piece_at
+none_past at k [] h = refl
+none_past at zero (p ∷ ps) h = absurd (omega arith)
+none_past at (suc k) (p ∷ ps) h = none_past (at + length p + 1) k ps (omega arith)
+
+module _ (s : List ℕ) (start len form : ℕ) where
   pub record Segment : Type 0 where
     pub at : ℕ
     pub size : ℕ
     pub is : segment s start len form ≡ stretch.At at size
 
-  pub below_stored : form < stored s t i → Segment
-  below_stored h =
-      let w = segment_holds s start len inside form (omega (arith, stored_is)) in
-      record { at = w.start; size = w.len; is = segment_is s start len inside form ∙ w.is }
+  pub below_stored : form < stored s start len → Segment
+  unfolding stored
+  below_stored h = go (leb (start + len) (length s)) refl h
+    where
+      go : (b : Bool) → leb (start + len) (length s) ≡ b → form < elim b [ true ↦ length (segments s start len) | false ↦ 0 ] → Segment
+      go true e l =
+          let d = leb-true (start + len) (length s) e in
+          let w = segment_holds s start len d form l in
+          record { at = w.start; size = w.len; is = segment_is s start len d form ∙ w.is }
+      go false e l = absurd (omega arith)
 
-  pub past_stored : stored s t i ≤ form → segment s start len form ≡ stretch.Absent
-  past_stored h = no_segment s start len form (omega (arith, stored_is))
+  pub past_stored : stored s start len ≤ form → segment s start len form ≡ stretch.Absent
+  unfolding stored segment
+  past_stored h = go (leb (start + len) (length s)) h
+    where
+      go : (b : Bool) → elim b [ true ↦ length (segments s start len) | false ↦ 0 ] ≤ form
+          → ◌≡◌ {A = Stretch} (elim b [ true ↦ piece_at start form (segments s start len) | false ↦ stretch.Absent ]) stretch.Absent
+      go true l = none_past start form (segments s start len) l
+      go false l = refl

@@ -1,39 +1,48 @@
--- Why a lookup answers as it does, with what support asks for beside: told from the lookup's own reason. SPEC 9.7.
-use Rattle.std.specs.Prelude.{ℕ, List, length}
+-- Why a lookup with a count answers as it does: the first reason that holds. SPEC 9.7. `reason_of` makes it the lookup's own reason, by which
+-- its number and its text are told; proofs/True.antt: it is that reason.
+use Rattle.std.specs.Prelude.{ℕ, ◌+◌, true, false, List, length, leb, eqb}
 use Rattle.rules_zero.specs.declared.Traced.{Traced}
 use Rattle.rules_zero.specs.declared.Traced.TheVariants as traced
-use Rattle.container_layout.specs.Mo.{string, segments}
+use Rattle.container_layout.specs.Mo.{segment, segments}
 use Rattle.container_layout.specs.declared.Tables.{Tables}
 use Rattle.text.specs.declared.Stretch.{Stretch}
 use Rattle.text.specs.declared.Stretch.TheVariants as stretch
+use Rattle.lookup_scan.specs.declared.Hit.{Hit}
+use Rattle.lookup_scan.specs.declared.Hit.TheVariants as hit
 use Rattle.lookup.specs.declared.Reason.{Reason}
 use Rattle.lookup.specs.declared.Reason.TheVariants as reason
 use Rattle.lookup_why.specs.declared.Why.{Why}
-use Rattle.lookup_why.specs.declared.Why.TheVariants.{StaleLength, NoTree, ZeroDivisor, NoEntry, TooFewSegments, Answered, IndexRoom}
+use Rattle.lookup_why.specs.declared.Why.TheVariants.{StaleLength, NoTree, ZeroDivisor, NoEntry, TooFewSegments, Answered}
 
--- how many segments a translation has; one that is not in the file has none
-abbrev pub segments_in : List ℕ → Stretch → ℕ
-segments_in s (stretch.At start len) = length (segments s start len)
-segments_in s stretch.Absent = 0
+-- how many segments are stored in a translation that lies in the file
+unfoldable pub stored : List ℕ → ℕ → ℕ → ℕ
+stored s start len = elim (leb (start + len) (length s)) [ true ↦ length (segments s start len) | false ↦ 0 ]
 
--- how many entry i stores
-unfoldable pub stored : List ℕ → Tables → ℕ → ℕ
-unfolding string
-stored s t i = segments_in s (string t.big s t.translations i)
+-- the segment that a form names, of entry i, which stores k of them
+abbrev pub by_segment : ℕ → ℕ → ℕ → Stretch → Why
+by_segment i k form (stretch.At start len) = Answered i form start len
+by_segment i k form stretch.Absent = TooFewSegments i k form
 
--- the node that divides by zero; 0 for a rule that does not, of which no lookup says so
-abbrev pub node_of : Traced → ℕ
-node_of (traced.ZeroDivisor q) = q
-node_of (traced.Form x) = 0
-node_of traced.NoTree = 0
+-- of the entry with the key, if there is one
+abbrev pub by_entry : List ℕ → ℕ → Hit → Why
+by_entry s form (hit.At i start len) = by_segment i (stored s start len) form (segment s start len form)
+by_entry s form hit.Missing = NoEntry
 
--- by the lookup's reason; v is the rule at the count
-unfoldable pub why_of : List ℕ → Tables → Traced → Reason → Why
-unfolding stored
-why_of s t v reason.StaleLength = StaleLength
-why_of s t v reason.NoTree = NoTree
-why_of s t v reason.IndexRoom = IndexRoom
-why_of s t v reason.ZeroModulus = ZeroDivisor (node_of v)
-why_of s t v reason.NoEntry = NoEntry
-why_of s t v (reason.TooFewSegments i form) = TooFewSegments i (stored s t i) form
-why_of s t v (reason.Answered i form start len) = Answered i form start len
+-- the rule is resolved before the key is sought
+abbrev pub by_rule : List ℕ → Traced → Hit → Why
+by_rule s (traced.Form form) h = by_entry s form h
+by_rule s (traced.ZeroDivisor node) h = ZeroDivisor node
+by_rule s traced.NoTree h = NoTree
+
+-- and the length is tested before all
+unfoldable pub why : List ℕ → Tables → Traced → Hit → Why
+why s t v h = elim (eqb (length s) t.length) [ true ↦ by_rule s v h | false ↦ StaleLength ]
+
+-- the lookup's reason
+abbrev pub reason_of : Why → Reason
+reason_of StaleLength = reason.StaleLength
+reason_of NoTree = reason.NoTree
+reason_of (ZeroDivisor node) = reason.ZeroModulus
+reason_of NoEntry = reason.NoEntry
+reason_of (TooFewSegments i k form) = reason.TooFewSegments i
+reason_of (Answered i form start len) = reason.Answered i form start len

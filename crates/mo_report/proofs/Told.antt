@@ -6,7 +6,7 @@ use native.Mathlib.Omega.{arith}
 use Rattle.refusal.specs.declared.Refusal.{Refusal}
 use Rattle.refusal.specs.declared.Outcome.TheVariants as outcome
 use Rattle.rules.specs.Range.{rate_tree}
-use Rattle.rules.specs.Nodes.{Nodes}
+use Rattle.rules.specs.Pool.{Pool}
 use Rattle.rules.specs.Answer.{range_of, rated_of}
 use Rattle.rules.specs.declared.Rated.{Rated}
 use Rattle.reading_rule.proofs.Joined.{held_rates}
@@ -21,7 +21,7 @@ use Rattle.mo_report.specs.Report.{options, report_of}
 use Rattle.mo_report.specs.declared.Said.{Said}
 use Rattle.mo_report.specs.declared.Said.TheVariants as said
 
-module _ (s : List ℕ) {Q : Nodes} {r : Loading} (h : Loads (load options s s) Q r) where
+module _ (s : List ℕ) {Q : Pool} {r : Loading} (h : Loads (load options s s) Q r) where
   pub some : 0 < r.nodes
   some = some_nodes (tree_in (load options s s)) h.nodes_are
 

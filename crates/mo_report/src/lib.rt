@@ -11,7 +11,7 @@ use rules::Rated;
 // The count and the range, or why and where the file is refused.
 #[derive(Drop)]
 pub enum Said {
-    Entries { count: u32, rated: Rated },
+    Entries(u32, Rated),
     Refused(Refusal),
 }
 
@@ -26,19 +26,16 @@ pub fn report(file: &[u8]) -> Said
         fit: false,
     };
     let mut codes = [0u8; 512];
-    let mut fields = [0u16; 1024];
+    let mut places = [0u16; 1024];
     let mut values = [0u64; 512];
-    let loading = container::load_into(file, file, options, &mut codes, &mut fields, &mut values);
+    let loading = container::load_into(file, file, options, &mut codes, &mut places, &mut values);
     let outcome = loading.outcome;
     match outcome {
         Outcome::Loaded => {
             let nodes = loading.nodes;
             let tables = loading.tables;
-            let rated = rules_range::rating_of(&codes, &fields, &values, nodes, nodes - 1);
-            Said::Entries {
-                count: tables.count,
-                rated,
-            }
+            let rated = rules_range::rating_of(&codes, &places, &values, nodes, nodes - 1);
+            Said::Entries(tables.count, rated)
         }
         Outcome::Refused(e) => Said::Refused(e),
     }
@@ -85,7 +82,7 @@ fn show_place(place: Where) {
     match place {
         Where::File => {}
         Where::Forced => show_side(Side::Rule),
-        Where::Entry { index: i, side } => {
+        Where::Entry(i, side) => {
             io::write_all(1, b" ");
             io::print_decimal(1, i as u64);
             show_side(side);
@@ -102,7 +99,7 @@ fn show_refusal(refusal: Refusal) {
 
 fn show(said: Said) {
     match said {
-        Said::Entries { count, rated } => {
+        Said::Entries(count, rated) => {
             io::write_all(1, b"entries ");
             io::print_decimal(1, count as u64);
             io::write_all(1, b"\n");

@@ -1,4 +1,4 @@
--- SPEC 14: a tree's text is read back as that very tree. Assumes nothing.
+-- SPEC 14: "Both readings of that text give this very tree." Assumes nothing.
 use Prim.Native.Nat.{◌≤◌}
 use mathlib.Core.Path.{◌≡◌, ap, ◌∙◌}
 use lib.ListN.{length}
@@ -34,7 +34,7 @@ bracketed_parses place reading t h k l =
     ∙ (taken _ _ (ascii_visible (seen t))
     ∙ ap (made place) e))
 
--- a tree without + - * /: by both readings
+-- "any tree of 01's operators": both readings
 pub plain_known : (reading : Reading) (t : Tree) → Plain t → Knows reading t
 plain_known Shipped t p = p
 plain_known Standard t p = tt
@@ -42,7 +42,7 @@ plain_known Standard t p = tt
 pub both_parse : (place : Where) (t : Tree) → Bounded t → Plain t → length (bracketed t) ≤ 512 → (reading : Reading) → parsed place reading (bracketed t) ≡ rule t
 both_parse place t h p l reading = bracketed_parses place reading t h (plain_known reading t p) l
 
--- any tree: by the Standard reading
+-- "For a rule with request b's operators, the Standard reading gives the tree back."
 pub standard_parses : (place : Where) (t : Tree) → Bounded t → length (bracketed t) ≤ 512 → parsed place Standard (bracketed t) ≡ rule t
 standard_parses place t h l = bracketed_parses place Standard t h tt l
 

@@ -1,5 +1,5 @@
--- A reading makes trees of its own operators only: what the Shipped reading makes has those that both have, by the table of levels. So a rule
--- that was loaded in a reading is one that this reading gives back. Assumes nothing.
+-- A reading makes trees of its own operators only: what the Shipped reading makes has document 01's, by the table of levels. So a rule that
+-- was loaded in a reading is one that this reading gives back. Assumes nothing.
 use Prim.Native.Nat.{ℕ, zero, suc, ◌+◌, ◌-◌}
 use mathlib.Core.Bool.{Bool, true, false}
 use mathlib.Core.List.{List, [], ◌∷◌}
@@ -13,7 +13,7 @@ use Rattle.text_digits.specs.Digits.{integer}
 use Rattle.refusal.specs.Places.{at}
 use Rattle.refusal.specs.declared.Where.{Where}
 use Rattle.refusal.specs.declared.Error.TheVariants.{PluralParsing, RuleTooLong}
-use Rattle.rules.specs.Tree.{Tree, var, int, negate, bin, cond, Op, Result, tree, none}
+use Rattle.rules.specs.Tree.{Tree, var, int, nay, bin, cond, Op, Reading, tree, none}
 use Rattle.reading_scan.specs.Scan.{index_of, end_from}
 use Rattle.reading_levels.specs.Levels.{Kind, binary, ternary, Row, rows, found}
 use Rattle.reading_shipped.specs.Shipped.{one, two, three, or_n, read_int, bang, colon, read_not, choose, cut, level, inside, parens, parse_in, shipped}
@@ -23,24 +23,24 @@ use Rattle.reading_rule.specs.Plurals.{norule, is_ascii, made, tested, parsed, t
 use Rattle.reading_bracketed.specs.Plain.{Plain-op, Plain, Knows}
 
 -- no other operators in what was read
-pub data Only : Result → Type 0 where
+pub data Only : Reading → Type 0 where
   plain : (t : Tree) → Plain t → Only (tree t)
   nothing : Only none
 
-either : (b : Bool) {q r : Result} → Only q → Only r → Only (elim b [ true ↦ q | false ↦ r ])
+either : (b : Bool) {q r : Reading} → Only q → Only r → Only (elim b [ true ↦ q | false ↦ r ])
 either true h k = h
 either false h k = k
 
-only_one : {r : Result} → Only r → Only (one r)
-only_one (plain s h) = plain (negate s) h
+only_one : {r : Reading} → Only r → Only (one r)
+only_one (plain s h) = plain (nay s) h
 only_one nothing = nothing
 
-only_two : (op : Op) → Plain-op op → {q r : Result} → Only q → Only r → Only (two op q r)
+only_two : (op : Op) → Plain-op op → {q r : Reading} → Only q → Only r → Only (two op q r)
 only_two op p (plain s h) (plain t k) = plain (bin op s t) (p, h, k)
 only_two op p (plain s h) nothing = nothing
 only_two op p nothing k = nothing
 
-only_three : {o q r : Result} → Only o → Only q → Only r → Only (three o q r)
+only_three : {o q r : Reading} → Only o → Only q → Only r → Only (three o q r)
 only_three (plain s h) (plain t k) (plain u l) = plain (cond s t u) (h, k, l)
 only_three (plain s h) (plain t k) nothing = nothing
 only_three (plain s h) nothing l = nothing
@@ -53,7 +53,7 @@ only_int s = go (integer s)
     go (Whole v) = plain (int v) tt
     go NoNumber = either (eqb (length (trim six s)) 1) (either (eqb (get_or (trim six s) 0 0) 110) (plain var tt) nothing) nothing
 
--- the rows of the table are of the operators that both readings have
+-- the rows of the table are of document 01's operators
 abbrev Plain-kind : Kind → Type 0
 Plain-kind (binary op) = Plain-op op
 Plain-kind ternary = Unit {0}
@@ -65,7 +65,7 @@ Plain-rows (r ∷ rs) = Plain-kind r.kind × Plain-rows rs
 plain_rows : Plain-rows rows
 plain_rows = (tt, (tt, (tt, (tt, (tt, (tt, (tt, (tt, (tt, (tt, tt))))))))))
 
-module _ (parse : List ℕ → Result) (h : (s : List ℕ) → Only (parse s)) where
+module _ (parse : List ℕ → Reading) (h : (s : List ℕ) → Only (parse s)) where
   only_not : (s : List ℕ) → Only (read_not parse s)
   unfolding read_not
   only_not s =
@@ -106,7 +106,7 @@ unfolding shipped
 shipped_plain s = only_in (suc (length s)) s
 
 -- the default rule, which stands for a refused one, has them too
-plain_made : (place : Where) {r : Result} → Only r → Plain (tree_in (made place r))
+plain_made : (place : Where) {r : Reading} → Only r → Plain (tree_in (made place r))
 unfolding made
 plain_made place (plain t h) = h
 plain_made place nothing = (tt, tt, tt)

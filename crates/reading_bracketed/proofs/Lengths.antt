@@ -4,14 +4,14 @@ use mathlib.Core.Path.{◌≡◌}
 use mathlib.Core.List.{List, [], ◌∷◌, ◌++◌}
 use native.Mathlib.Omega.{arith}
 use lib.ListN.{length, length-append}
-use Rattle.rules.specs.Tree.{Tree, var, int, negate, bin, cond, Op}
+use Rattle.rules.specs.Tree.{Tree, var, int, nay, bin, cond, Op}
 use Rattle.rules.specs.Store.{size}
 use Rattle.rules_text.specs.Bracketed.{sign_of, bracketed}
 use Rattle.rules_text.specs.Bounded.{Bounded}
 use Rattle.reading_bracketed.proofs.Decimal.{digits_few}
 use Rattle.reading_bracketed.proofs.Marks.{Sign, one_byte, two_bytes, signs}
 
-pub length_not : (t : Tree) → length (bracketed (negate t)) ≡ length (bracketed t) + 3
+pub length_not : (t : Tree) → length (bracketed (nay t)) ≡ length (bracketed t) + 3
 unfolding bracketed
 length_not t = omega (arith, length-append (bracketed t) (41 ∷ []))
 
@@ -43,6 +43,6 @@ pub few_bytes : (t : Tree) → Bounded t → length (bracketed t) ≤ 20 * size 
 unfolding bracketed size
 few_bytes var h = omega arith
 few_bytes (int v) h = digits_few v h
-few_bytes (negate t) h = omega (arith, length_not t, few_bytes t h)
+few_bytes (nay t) h = omega (arith, length_not t, few_bytes t h)
 few_bytes (bin op s t) h = omega (arith, length_binary op s t, short (signs op), few_bytes s h.0, few_bytes t h.1)
 few_bytes (cond s t u) h = omega (arith, length_ternary s t u, few_bytes s h.0, few_bytes t h.1, few_bytes u h.2)

@@ -9,7 +9,7 @@ use lib.Dec.{leb, ltb, eqb}
 use borrow.Author.Tests.{le-leb, lt-leb, leb-true, ne_eqb}
 use Rattle.text.proofs.Tests.{never, by_test, and_left, and_right}
 use Rattle.text_digits.specs.Digits.{digit}
-use Rattle.rules.specs.Tree.{Tree, var, int, negate, bin, cond, Op, cmp, calc, and, or, modulo, divide, equal, not_equal, greater_or_equal, smaller_or_equal, greater, smaller, plus, minus, times}
+use Rattle.rules.specs.Tree.{Tree, var, int, nay, bin, cond, Op, cmp, calc, and, or, rem, div, eq, ne, ge, le, gt, lt, plus, minus, times}
 use Rattle.text.specs.Bytes.{all}
 use Rattle.rules_text.specs.Bracketed.{sign_of, bracketed}
 use Rattle.reading_bracketed.proofs.Decimal.{Digits, one, decimal_writes}
@@ -32,16 +32,16 @@ pub data Sign : List ℕ → Type 0 where
   two_bytes : {b c : ℕ} → sign b ≡ true → sign c ≡ true → Sign (b ∷ c ∷ [])
 
 pub signs : (op : Op) → Sign (sign_of op)
-signs (cmp equal) = two_bytes refl refl
-signs (cmp not_equal) = two_bytes refl refl
-signs (cmp greater_or_equal) = two_bytes refl refl
-signs (cmp smaller_or_equal) = two_bytes refl refl
-signs (cmp greater) = one_byte refl
-signs (cmp smaller) = one_byte refl
+signs (cmp eq) = two_bytes refl refl
+signs (cmp ne) = two_bytes refl refl
+signs (cmp ge) = two_bytes refl refl
+signs (cmp le) = two_bytes refl refl
+signs (cmp gt) = one_byte refl
+signs (cmp lt) = one_byte refl
 signs and = two_bytes refl refl
 signs or = two_bytes refl refl
-signs modulo = one_byte refl
-signs divide = one_byte refl
+signs rem = one_byte refl
+signs div = one_byte refl
 signs (calc plus) = one_byte refl
 signs (calc minus) = one_byte refl
 signs (calc times) = one_byte refl
@@ -87,7 +87,7 @@ pub begins : (t : Tree) → Begins (bracketed t)
 unfolding bracketed
 begins var = record { first = 110; rest = []; is = refl; part = refl }
 begins (int v) = let w = decimal_writes v in record { first = w.first; rest = w.rest; is = w.is; part = first_digit w.digits }
-begins (negate t) = record { first = 40; rest = _; is = refl; part = refl }
+begins (nay t) = record { first = 40; rest = _; is = refl; part = refl }
 begins (bin op s t) = record { first = 40; rest = _; is = refl; part = refl }
 begins (cond s t u) = record { first = 40; rest = _; is = refl; part = refl }
 

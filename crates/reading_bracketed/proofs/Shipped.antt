@@ -13,7 +13,7 @@ use Rattle.text.specs.Bytes.{all}
 use Rattle.text_trim.specs.Trim.{trim, six}
 use Rattle.text_trim.specs.declared.Set.TheVariants.{Six}
 use Rattle.text.proofs.Tests.{taken, left, and_left, and_right}
-use Rattle.rules.specs.Tree.{Tree, var, int, negate, bin, cond, Op, cmp, calc, and, or, modulo, divide, equal, not_equal, greater_or_equal, smaller_or_equal, greater, smaller, Result, tree}
+use Rattle.rules.specs.Tree.{Tree, var, int, nay, bin, cond, Op, cmp, calc, and, or, rem, div, eq, ne, ge, le, gt, lt, Reading, tree}
 use Rattle.text_digits.specs.Digits.{digits_from, integer}
 use Rattle.reading_scan.specs.Scan.{index_of, end_from}
 use Rattle.reading_levels.specs.Levels.{Kind, binary, ternary, Row, row, rows, found}
@@ -57,7 +57,7 @@ text var = record { operand = letter; balanced = balanced.byte refl refl balance
 text (int v) =
     let w = decimal_writes v in
     record { operand = rw w.is (number w.digits); balanced = rw w.is (digits_balanced w.digits); visible = seen (int v) }
-text (negate t) = wrapped (not_balanced (text t)) (seen (negate t))
+text (nay t) = wrapped (not_balanced (text t)) (seen (nay t))
 text (bin op s t) = wrapped (binary_balanced (text s) (text t) op) (seen (bin op s t))
 text (cond s t u) = wrapped (ternary_balanced (text s) (text t) (text u)) (seen (cond s t u))
 
@@ -76,7 +76,7 @@ inside_whole s =
     let n : length (brackets s) - 1 - 1 ≡ length s = omega (arith, length-append s (41 ∷ [])) in
     rw n (take-append_seam s (41 ∷ []))
 
-module _ (parse : List ℕ → Result) where
+module _ (parse : List ℕ → Reading) where
   parens_strip : {s : List ℕ} → Balanced s → parens parse (brackets s) ≡ parse (trim six s)
   unfolding parens end_from
   parens_strip {s} d =
@@ -138,7 +138,7 @@ all_rows clear [] = true
 all_rows clear (r ∷ rs) = clear r.pattern && all_rows clear rs
 
 rows_past :
-    (parse : List ℕ → Result) (s : List ℕ) (clear : List ℕ → Bool) → ((p : List ℕ) → clear p ≡ true → found p s ≡ false) →
+    (parse : List ℕ → Reading) (s : List ℕ) (clear : List ℕ → Bool) → ((p : List ℕ) → clear p ≡ true → found p s ≡ false) →
     (before rs : List Row) → all_rows clear before ≡ true → level parse (before ++ rs) s ≡ level parse rs s
 unfolding all_rows level
 rows_past parse s clear miss [] rs h = refl
@@ -161,19 +161,19 @@ at n e h = record { before = take n rows; after = drop (suc n) rows; is = e; pas
 abbrev avoids : List ℕ → List ℕ → Bool
 avoids g p = all sign p && passes p g 0
 
--- the row of each of the operators that both readings have: none above it has a match in the operator's own bytes
+-- the row of each of document 01's operators: none above it has a match in the operator's own bytes
 row_of : (op : Op) → Plain-op op → Row-of (sign_of op) (binary op) (avoids (sign_of op))
 unfolding all_rows all passes
 row_of and h = at 0 refl refl
 row_of or h = at 1 refl refl
-row_of (cmp greater_or_equal) h = at 3 refl refl
-row_of (cmp greater) h = at 4 refl refl
-row_of (cmp smaller_or_equal) h = at 5 refl refl
-row_of (cmp smaller) h = at 6 refl refl
-row_of (cmp equal) h = at 7 refl refl
-row_of (cmp not_equal) h = at 8 refl refl
-row_of modulo h = at 9 refl refl
-row_of divide h = absurd h
+row_of (cmp ge) h = at 3 refl refl
+row_of (cmp gt) h = at 4 refl refl
+row_of (cmp le) h = at 5 refl refl
+row_of (cmp lt) h = at 6 refl refl
+row_of (cmp eq) h = at 7 refl refl
+row_of (cmp ne) h = at 8 refl refl
+row_of rem h = at 9 refl refl
+row_of div h = absurd h
 row_of (calc c) h = absurd h
 
 row_of_ask : Row-of (63 ∷ []) ternary (λ p. avoids (63 ∷ []) p && avoids (58 ∷ []) p)
@@ -191,7 +191,7 @@ after_sign p g o h e =
 operand_missed : {x : List ℕ} (p : List ℕ) → Operand x → all sign p ≡ true → Missed p x
 operand_missed p o h = over_missed (operand_over (signs_clean p h) o)
 
-module _ (parse : List ℕ → Result) where
+module _ (parse : List ℕ → Reading) where
   -- `parse_and`, .. `parse_mod`
   binary_level : (op : Op) → Plain-op op → {x y : List ℕ} → Operand x → Operand y → level parse rows (x ++ (sign_of op ++ y)) ≡ two op (parse x) (parse y)
   unfolding level
@@ -214,7 +214,7 @@ module _ (parse : List ℕ → Result) where
       miss : (p : List ℕ) → avoids g p ≡ true → found p s ≡ false
       miss p e = missing (both_missed (operand_missed p o (and_left (all sign p) (passes p g 0) e)) (after_sign p g q (all_signs (signs op)) e))
 
-      ap2 : (F : Result → Result → Result) {a b c d : Result} → a ≡ b → c ≡ d → F a c ≡ F b d
+      ap2 : (F : Reading → Reading → Reading) {a b c d : Reading} → a ≡ b → c ≡ d → F a c ≡ F b d
       ap2 F e f = rw (e, f)
 
   -- `parse_ternary`
@@ -263,7 +263,7 @@ module _ (parse : List ℕ → Result) where
           let n : length x + suc (length y) + 1 ≡ length x + suc (length y + 1) = omega arith in
           rw n (drop-append-add x (63 ∷ (y ++ 58 ∷ z)) (suc (length y + 1)) ∙ drop-append-add y (58 ∷ z) 1)
 
-      ap3 : (F : Result → Result → Result → Result) {a b c d e f : Result} → a ≡ b → c ≡ d → e ≡ f → F a c e ≡ F b d f
+      ap3 : (F : Reading → Reading → Reading → Reading) {a b c d e f : Reading} → a ≡ b → c ≡ d → e ≡ f → F a c e ≡ F b d f
       ap3 F i j k = rw (i, j, k)
 
   -- `parse_not`
@@ -350,8 +350,8 @@ unfolding bracketed
 reads_back t h p zero l = absurd (omega arith)
 reads_back var h p (suc f) l = read_n_lem f
 reads_back (int v) h p (suc f) l = read_int_lem v h (text (int v)) f
-reads_back (negate t) h p (suc zero) l = absurd (omega arith)
-reads_back (negate t) h p (suc (suc f)) l =
+reads_back (nay t) h p (suc zero) l = absurd (omega arith)
+reads_back (nay t) h p (suc (suc f)) l =
     read_not_lem (text t) f ∙ rw (reads_back t h p f (omega (arith, length_not t)))
 reads_back (bin op s t) h p (suc zero) l = absurd (omega arith)
 reads_back (bin op s t) h p (suc (suc f)) l =

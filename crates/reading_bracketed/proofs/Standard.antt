@@ -8,7 +8,7 @@ use native.Mathlib.Omega.{arith}
 use lib.Dec.{leb, eqb}
 use borrow.Author.Tests.{leb-true, leb-false, ne_eqb}
 use Rattle.text.proofs.Tests.{by_test, taken, left}
-use Rattle.rules.specs.Tree.{Tree, var, int, negate, bin, cond, Op, cmp, calc, and, or, modulo, divide, equal, not_equal, greater_or_equal, smaller_or_equal, greater, smaller, plus, minus, times, tree}
+use Rattle.rules.specs.Tree.{Tree, var, int, nay, bin, cond, Op, cmp, calc, and, or, rem, div, eq, ne, ge, le, gt, lt, plus, minus, times, tree}
 use Rattle.reading_grammar.specs.Grammar.{Token, sign, number, mark, letter_n, bang, ask, colon, opening, closing, rank, loosest, full, Derives, variable, integer, bracket, negation, tighter, binary, conditional}
 use Rattle.reading_grammar.specs.Tokens.{lex, start, digits, tokens, digit, blank, two, twos, ones, find_two, find_one}
 use Rattle.reading_grammar.specs.Reading.{standard}
@@ -23,7 +23,7 @@ use Rattle.reading_bracketed.proofs.Marks.{inner, Sign, one_byte, two_bytes, sig
 unfoldable pub tokens_of : Tree → List Token
 tokens_of var = letter_n ∷ []
 tokens_of (int v) = number v ∷ []
-tokens_of (negate t) = opening ∷ (bang ∷ tokens_of t) ++ closing ∷ []
+tokens_of (nay t) = opening ∷ (bang ∷ tokens_of t) ++ closing ∷ []
 tokens_of (bin op s t) = opening ∷ (tokens_of s ++ sign op ∷ tokens_of t) ++ closing ∷ []
 tokens_of (cond s t u) = opening ∷ (tokens_of s ++ ask ∷ tokens_of t ++ colon ∷ tokens_of u) ++ closing ∷ []
 
@@ -36,16 +36,16 @@ looser (suc m) {l} {s} {t} h d =
     (λ e. let z : l ≡ suc m = omega (arith, leb-false l m e) in rw z at d)
 
 some_rank : (op : Op) → 0 < rank op
-some_rank (cmp equal) = omega arith
-some_rank (cmp not_equal) = omega arith
-some_rank (cmp greater_or_equal) = omega arith
-some_rank (cmp smaller_or_equal) = omega arith
-some_rank (cmp greater) = omega arith
-some_rank (cmp smaller) = omega arith
+some_rank (cmp eq) = omega arith
+some_rank (cmp ne) = omega arith
+some_rank (cmp ge) = omega arith
+some_rank (cmp le) = omega arith
+some_rank (cmp gt) = omega arith
+some_rank (cmp lt) = omega arith
 some_rank and = omega arith
 some_rank or = omega arith
-some_rank modulo = omega arith
-some_rank divide = omega arith
+some_rank rem = omega arith
+some_rank div = omega arith
 some_rank (calc plus) = omega arith
 some_rank (calc minus) = omega arith
 some_rank (calc times) = omega arith
@@ -54,7 +54,7 @@ derives : (t : Tree) → Bounded t → Derives 0 (tokens_of t) t
 unfolding tokens_of
 derives var h = variable
 derives (int v) h = integer h
-derives (negate t) h = bracket (looser full (omega arith) (negation (derives t h)))
+derives (nay t) h = bracket (looser full (omega arith) (negation (derives t h)))
 derives (bin op s t) h =
     let z : rank op ≡ suc (rank op - 1) = omega (arith, some_rank op) in
     bracket (looser full (omega (arith, some_rank op, low op))
@@ -99,16 +99,16 @@ no_equals b w h = rw w.is (h w.first (not_equals w.first w.part))
 
 signed : (op : Op) {x : List ℕ} → Begins x → lex start (sign_of op ++ x) ≡ sign op ∷ lex start x
 unfolding lex
-signed (cmp equal) w = refl
-signed (cmp not_equal) w = refl
-signed (cmp greater_or_equal) w = refl
-signed (cmp smaller_or_equal) w = refl
-signed (cmp greater) {x} w = single 62 x refl refl (no_equals 62 w (λ c e. left _ _ e))
-signed (cmp smaller) {x} w = single 60 x refl refl (no_equals 60 w (λ c e. left _ _ e))
+signed (cmp eq) w = refl
+signed (cmp ne) w = refl
+signed (cmp ge) w = refl
+signed (cmp le) w = refl
+signed (cmp gt) {x} w = single 62 x refl refl (no_equals 62 w (λ c e. left _ _ e))
+signed (cmp lt) {x} w = single 60 x refl refl (no_equals 60 w (λ c e. left _ _ e))
 signed and w = refl
 signed or w = refl
-signed modulo {x} w = single 37 x refl refl (alone 37 x (λ c. refl))
-signed divide {x} w = single 47 x refl refl (alone 47 x (λ c. refl))
+signed rem {x} w = single 37 x refl refl (alone 37 x (λ c. refl))
+signed div {x} w = single 47 x refl refl (alone 47 x (λ c. refl))
 signed (calc plus) {x} w = single 43 x refl refl (alone 43 x (λ c. refl))
 signed (calc minus) {x} w = single 45 x refl refl (alone 45 x (λ c. refl))
 signed (calc times) {x} w = single 42 x refl refl (alone 42 x (λ c. refl))
@@ -132,7 +132,7 @@ lexed var {r} h = mark_alone 110 r refl refl (λ c. refl) refl
 lexed (int v) {r} h =
     let w = decimal_writes v in
     rw w.is (digits_start r w.digits ∙ rw w.worth (number_ends v h))
-lexed (negate t) {r} h =
+lexed (nay t) {r} h =
     simp append_assoc (mark_alone 40 _ refl refl (λ c. refl) refl ∙ ap (λ (x : List Token). opening ∷ x)
     (negated (begins_before (41 ∷ r) (begins t)) ∙ ap (λ (x : List Token). bang ∷ x)
     (lexed t (other refl) ∙ ap (λ (x : List Token). tokens_of t ++ x) (mark_alone 41 r refl refl (λ c. refl) refl))))

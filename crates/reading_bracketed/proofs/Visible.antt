@@ -14,7 +14,7 @@ use Rattle.text_trim.specs.declared.Set.TheVariants.{WhiteSpace, Six, Label}
 use Rattle.text_trim.proofs.Encodings.{each, each_at, code, solid}
 use Rattle.text_trim.proofs.Middle.{one_middle}
 use Rattle.text.proofs.Tests.{never, and_right}
-use Rattle.rules.specs.Tree.{Tree, var, int, negate, bin, cond}
+use Rattle.rules.specs.Tree.{Tree, var, int, nay, bin, cond}
 use Rattle.rules_text.specs.Bracketed.{brackets, bracketed}
 use Rattle.reading_bracketed.proofs.Decimal.{Digits, none, one, decimal_writes}
 use Rattle.reading_bracketed.proofs.Marks.{visible, Sign, one_byte, two_bytes, signs, sign_visible}
@@ -43,7 +43,7 @@ pub seen : (t : Tree) → Visible (bracketed t)
 unfolding bracketed
 seen var = byte refl empty
 seen (int v) = let w = decimal_writes v in rw w.is (digits_seen w.digits)
-seen (negate t) = in_brackets (byte refl (seen t))
+seen (nay t) = in_brackets (byte refl (seen t))
 seen (bin op s t) = in_brackets (both_visible (both_visible (seen s) (sign_seen (signs op))) (seen t))
 seen (cond s t u) = in_brackets (both_visible (both_visible (seen s) (byte refl (seen t))) (byte refl (seen u)))
 

@@ -1,4 +1,4 @@
--- Worked examples, computed: texts with their readings, and texts with their values at a count. The rules of SPEC 17.1 are in the table of
+-- Worked examples, computed: texts with their readings, and texts with their values at a count. Document 01's starred rules are in the table of
 -- crate `starred`; the first readings are the trees of those that are rules.
 use Prim.Native.Nat.{ℕ}
 use Prim.Native.Char.{code}
@@ -6,7 +6,7 @@ use Prim.Native.String as Str
 use mathlib.Core.Path.{◌≡◌, refl}
 use mathlib.Core.List.{List, [], ◌∷◌, map}
 use mathlib.Core.Option.{Option, some, none as nothing}
-use Rattle.rules.specs.Tree.{var, int, negate, bin, cond, cmp, and, or, modulo, equal, not_equal, greater_or_equal, smaller_or_equal, greater, smaller, Result, tree, none}
+use Rattle.rules.specs.Tree.{var, int, nay, bin, cond, cmp, and, or, rem, eq, ne, ge, le, gt, lt, Reading, tree, none}
 use Rattle.rules.specs.Value.{eval_tree, binary, negated, chosen, truth_v}
 use Rattle.rules.specs.declared.Value.{Value}
 use Rattle.rules.specs.declared.Value.TheVariants.{Is, ZeroModulus}
@@ -17,7 +17,7 @@ abbrev pub bytes : Str.String → List ℕ
 bytes Str.String.[] = []
 bytes (Str.String.◌∷◌ c s) = code c ∷ bytes s
 
-abbrev pub valued : Result → ℕ → Option Value
+abbrev pub valued : Reading → ℕ → Option Value
 valued (tree t) n = some (eval_tree t n)
 valued none n = nothing
 
@@ -37,25 +37,25 @@ unfolding standard eval_tree binary negated chosen truth_v
 values_hold = refl
 
 -- a text, and its reading
-abbrev pub readings : List (Str.String × Result)
+abbrev pub readings : List (Str.String × Reading)
 readings =
-    ("n%10%3", tree (bin modulo (bin modulo var (int 10)) (int 3)))
-    ∷ ("n>1 == 0", tree (bin (cmp equal) (bin (cmp greater) var (int 1)) (int 0)))
-    ∷ ("n==1 && 1 ? 2 : 3", tree (cond (bin and (bin (cmp equal) var (int 1)) (int 1)) (int 2) (int 3)))
+    ("n%10%3", tree (bin rem (bin rem var (int 10)) (int 3)))
+    ∷ ("n>1 == 0", tree (bin (cmp eq) (bin (cmp gt) var (int 1)) (int 0)))
+    ∷ ("n==1 && 1 ? 2 : 3", tree (cond (bin and (bin (cmp eq) var (int 1)) (int 1)) (int 2) (int 3)))
     ∷ ("0 ? n?1:2 : 3", tree (cond (int 0) (cond var (int 1) (int 2)) (int 3)))
     -- ?: groups right, and its middle is a whole rule
     ∷ ("n?1:n?2:3", tree (cond var (int 1) (cond var (int 2) (int 3))))
     ∷ ("n?n?1:2:n||n?3:4", tree (cond var (cond var (int 1) (int 2)) (cond (bin or var var) (int 3) (int 4))))
     ∷ ("n?1||n:2", tree (cond var (bin or (int 1) var) (int 2)))
     ∷ ("(n?1:0)?2:3", tree (cond (cond var (int 1) (int 0)) (int 2) (int 3)))
-    ∷ ("n%(n?1:2)", tree (bin modulo var (cond var (int 1) (int 2))))
+    ∷ ("n%(n?1:2)", tree (bin rem var (cond var (int 1) (int 2))))
     -- ranks
-    ∷ ("n||n&&n==n<n%2", tree (bin or var (bin and var (bin (cmp equal) var (bin (cmp smaller) var (bin modulo var (int 2)))))))
-    ∷ ("n%2<n==n&&n||n", tree (bin or (bin and (bin (cmp equal) (bin (cmp smaller) (bin modulo var (int 2)) var) var) var) var))
-    ∷ ("n!=1>=2", tree (bin (cmp not_equal) var (bin (cmp greater_or_equal) (int 1) (int 2))))
-    ∷ ("n<=1!=2", tree (bin (cmp not_equal) (bin (cmp smaller_or_equal) var (int 1)) (int 2)))
-    ∷ ("!n%2", tree (bin modulo (negate var) (int 2)))
-    ∷ (" ! !n==!\t(n != 0)", tree (bin (cmp equal) (negate (negate var)) (negate (bin (cmp not_equal) var (int 0)))))
+    ∷ ("n||n&&n==n<n%2", tree (bin or var (bin and var (bin (cmp eq) var (bin (cmp lt) var (bin rem var (int 2)))))))
+    ∷ ("n%2<n==n&&n||n", tree (bin or (bin and (bin (cmp eq) (bin (cmp lt) (bin rem var (int 2)) var) var) var) var))
+    ∷ ("n!=1>=2", tree (bin (cmp ne) var (bin (cmp ge) (int 1) (int 2))))
+    ∷ ("n<=1!=2", tree (bin (cmp ne) (bin (cmp le) var (int 1)) (int 2)))
+    ∷ ("!n%2", tree (bin rem (nay var) (int 2)))
+    ∷ (" ! !n==!\t(n != 0)", tree (bin (cmp eq) (nay (nay var)) (nay (bin (cmp ne) var (int 0)))))
     -- integers
     ∷ ("007", tree (int 7))
     ∷ ("18446744073709551615", tree (int 18446744073709551615))
@@ -81,6 +81,6 @@ readings =
     ∷ ("n&n", none)
     ∷ []
 
-pub readings_hold : map (λ (c : Str.String × Result). standard (bytes c.0)) readings ≡ map (λ (c : Str.String × Result). c.1) readings
+pub readings_hold : map (λ (c : Str.String × Reading). standard (bytes c.0)) readings ≡ map (λ (c : Str.String × Reading). c.1) readings
 unfolding standard
 readings_hold = refl

@@ -9,7 +9,7 @@ use mathlib.Core.List.{List, [], ◌∷◌, ◌++◌, append_assoc, append-nil}
 use native.Mathlib.Omega.{arith}
 use lib.Dec.{eqb}
 use borrow.Author.Tests.{eq-eqb, ne_eqb, lt-ltb}
-use Rattle.rules.specs.Tree.{Tree, negate, bin, cond, Op, tree, none}
+use Rattle.rules.specs.Tree.{Tree, nay, bin, cond, Op, tree, none}
 use Rattle.reading_grammar.specs.Grammar.{Token, sign, number, mark, ask, colon, opening, closing, bang, rank, loosest, full, Derives, variable, integer, bracket, negation, tighter, binary, conditional}
 use Rattle.reading_grammar.specs.Reading.{Outcome, got, Level, More, reading, standard}
 use Rattle.reading_grammar.specs.Tokens.{tokens}
@@ -65,7 +65,7 @@ module _ {s : List Token} {t : Tree} where
   reads_bracket : Reads full s t → Reads 0 (opening ∷ s ++ closing ∷ []) t
   reads_bracket w = record { goes = λ r h. level_zero _ ∙ (prefix_mark _ _ ∙ rw (append_assoc s (closing ∷ []) r, finish w (closing ∷ r) (omega arith))) }
 
-  reads_negation : Reads 0 s t → Reads 0 (bang ∷ s) (negate t)
+  reads_negation : Reads 0 s t → Reads 0 (bang ∷ s) (nay t)
   reads_negation w = record { goes = λ r h. level_zero _ ∙ (prefix_mark _ _ ∙ rw (← level_zero (s ++ r), w.goes r h)) }
 
   reads_tighter : {k : ℕ} → Reads k s t → Reads (suc k) s t

@@ -6,7 +6,7 @@ use mathlib.Core.List.{List, [], ◌∷◌, ◌++◌, append_assoc, append-nil}
 use native.Mathlib.Omega.{arith}
 use lib.Dec.{ltb, eqb}
 use borrow.Author.Tests.{eqb-true, ltb-true}
-use Rattle.rules.specs.Tree.{Tree, bin, cond, Op, cmp, and, or, modulo, equal, not_equal, greater_or_equal, smaller_or_equal, greater, smaller, tree, calc, divide, plus, minus, times}
+use Rattle.rules.specs.Tree.{Tree, bin, cond, Op, cmp, and, or, rem, eq, ne, ge, le, gt, lt, tree, calc, div, plus, minus, times}
 use Rattle.reading_grammar.specs.Grammar.{Token, sign, number, mark, ask, colon, closing, rank, loosest, full, Derives, variable, integer, bracket, negation, tighter, binary, conditional}
 use Rattle.reading_grammar.specs.Reading.{Outcome, got, bad, and_then, past, level, more, prefix, Level, whole, reading, μ}
 use Rattle.reading_grammar.proofs.Choice.{both}
@@ -38,16 +38,16 @@ asks b k e = let z = both (eqb b 63) (eqb k loosest) e in (eqb-true _ _ z.0, eqb
 
 -- the table's only fact: ?: is looser than every operator
 pub low : (op : Op) → rank op < full
-low (cmp equal) = omega arith
-low (cmp not_equal) = omega arith
-low (cmp greater_or_equal) = omega arith
-low (cmp smaller_or_equal) = omega arith
-low (cmp greater) = omega arith
-low (cmp smaller) = omega arith
+low (cmp eq) = omega arith
+low (cmp ne) = omega arith
+low (cmp ge) = omega arith
+low (cmp le) = omega arith
+low (cmp gt) = omega arith
+low (cmp lt) = omega arith
 low and = omega arith
 low or = omega arith
-low modulo = omega arith
-low divide = omega arith
+low rem = omega arith
+low div = omega arith
 low (calc plus) = omega arith
 low (calc minus) = omega arith
 low (calc times) = omega arith

@@ -8,7 +8,7 @@ use native.Mathlib.Omega.{arith}
 use lib.ListN.{length, length-append}
 use lib.Dec.{ltb, eqb}
 use borrow.Author.Tests.{eqb-true}
-use Rattle.rules.specs.Tree.{Tree, var, int, negate, bin, cond, Op}
+use Rattle.rules.specs.Tree.{Tree, var, int, nay, bin, cond, Op}
 use Rattle.reading_grammar.specs.Grammar.{Token, sign, number, mark, rank, loosest, full}
 use Rattle.reading_grammar.specs.Reading.{Outcome, got, bad, and_then, past, level, more, prefix, Level, More, Prefix, μ}
 use Rattle.reading_grammar.proofs.Sound.{Right, right, nothing, sound_level, low}
@@ -108,7 +108,7 @@ step_prefix : (f b : ℕ) (s : List Token) → (full + 2) * suc (length s) < suc
     → prefix (suc f) (mark b ∷ s) ≡ elim (eqb b (code "n")) [
       | true ↦ got var s
       | false ↦ elim (eqb b (code "!")) [
-        | true ↦ and_then (Prefix s) (λ t r. got (negate t) r)
+        | true ↦ and_then (Prefix s) (λ t r. got (nay t) r)
         | false ↦ elim (eqb b (code "(")) [
           | true ↦ past (code ")") (Level full s) (λ t r. got t r)
           | false ↦ bad
@@ -165,7 +165,7 @@ prefix_number v s = refl
 pub prefix_mark : (b : ℕ) (s : List Token) → Prefix (mark b ∷ s) ≡ elim (eqb b (code "n")) [
   | true ↦ got var s
   | false ↦ elim (eqb b (code "!")) [
-    | true ↦ and_then (Prefix s) (λ t r. got (negate t) r)
+    | true ↦ and_then (Prefix s) (λ t r. got (nay t) r)
     | false ↦ elim (eqb b (code "(")) [
       | true ↦ past (code ")") (Level full s) (λ t r. got t r)
       | false ↦ bad

@@ -4,7 +4,7 @@
 -- left (SPEC 6, for + - * /).
 use Rattle.std.specs.Prelude.{ℕ, suc, ◌<◌, ◌^◌, ◌≡◌, List, [], ◌∷◌, ◌++◌}
 use Prim.Native.Char.{code}
-use Rattle.rules.specs.Tree.{Tree, var, int, negate, bin, cond, Op, cmp, calc, and, or, modulo, divide, Cmp, equal, not_equal, greater_or_equal, smaller_or_equal, greater, smaller, Calc, plus, minus, times}
+use Rattle.rules.specs.Tree.{Tree, var, int, nay, bin, cond, Op, cmp, calc, and, or, rem, div, Cmp, eq, ne, ge, le, gt, lt, Calc, plus, minus, times}
 
 -- a binary operator, an integer, or any other byte as it stands
 pub data Token : Type 0 where
@@ -32,12 +32,12 @@ closing = mark (code ")")
 
 -- the table of ranks: 1 binds tightest
 abbrev pub rank_cmp : Cmp → ℕ
-rank_cmp equal = 4
-rank_cmp not_equal = 4
-rank_cmp greater_or_equal = 3
-rank_cmp smaller_or_equal = 3
-rank_cmp greater = 3
-rank_cmp smaller = 3
+rank_cmp eq = 4
+rank_cmp ne = 4
+rank_cmp ge = 3
+rank_cmp le = 3
+rank_cmp gt = 3
+rank_cmp lt = 3
 
 abbrev pub rank_calc : Calc → ℕ
 rank_calc times = 1
@@ -45,8 +45,8 @@ rank_calc plus = 2
 rank_calc minus = 2
 
 abbrev pub rank : Op → ℕ
-rank modulo = 1
-rank divide = 1
+rank rem = 1
+rank div = 1
 rank (calc c) = rank_calc c
 rank (cmp c) = rank_cmp c
 rank and = 5
@@ -64,7 +64,7 @@ pub data Derives : ℕ → List Token → Tree → Type 0 where
   variable : Derives 0 (letter_n ∷ []) var
   integer : {v : ℕ} → v < 2 ^ 64 → Derives 0 (number v ∷ []) (int v)
   bracket : {s : List Token} {t : Tree} → Derives full s t → Derives 0 (opening ∷ s ++ closing ∷ []) t
-  negation : {s : List Token} {t : Tree} → Derives 0 s t → Derives 0 (bang ∷ s) (negate t)
+  negation : {s : List Token} {t : Tree} → Derives 0 s t → Derives 0 (bang ∷ s) (nay t)
   tighter : {k : ℕ} {s : List Token} {t : Tree} → Derives k s t → Derives (suc k) s t
   binary : {op : Op} {k : ℕ} {s u : List Token} {t v : Tree} → rank op ≡ suc k
       → Derives (suc k) s t → Derives k u v → Derives (suc k) (s ++ sign op ∷ u) (bin op t v)

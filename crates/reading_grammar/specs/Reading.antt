@@ -2,7 +2,7 @@
 -- derives (proofs/Complete.antt, `agrees`). Fuel bounds the steps.
 use Rattle.std.specs.Prelude.{ℕ, zero, suc, ◌+◌, ◌*◌, ◌^◌, true, false, ◌&&◌, List, [], ◌∷◌, length, ltb, eqb}
 use Prim.Native.Char.{code}
-use Rattle.rules.specs.Tree.{Tree, var, int, negate, bin, cond, Result, tree, none}
+use Rattle.rules.specs.Tree.{Tree, var, int, nay, bin, cond, Reading, tree, none}
 use Rattle.reading_grammar.specs.Tokens.{tokens}
 use Rattle.reading_grammar.specs.Grammar.{Token, sign, number, mark, rank, loosest, full}
 
@@ -51,7 +51,7 @@ unfoldable mutual
   prefix (suc f) (mark b ∷ s) = elim (eqb b (code "n")) [
     | true ↦ got var s
     | false ↦ elim (eqb b (code "!")) [
-      | true ↦ and_then (prefix f s) (λ t r. got (negate t) r)
+      | true ↦ and_then (prefix f s) (λ t r. got (nay t) r)
       | false ↦ elim (eqb b (code "(")) [
         | true ↦ past (code ")") (level f full s) (λ t r. got t r)
         | false ↦ bad
@@ -76,16 +76,16 @@ unfolding level
 Prefix s = prefix (suc ((full + 2) * length s)) s
 
 -- a whole text
-abbrev pub whole : Outcome → Result
+abbrev pub whole : Outcome → Reading
 whole (got t []) = tree t
 whole (got t (x ∷ r)) = none
 whole bad = none
 
-unfoldable pub reading : List Token → Result
+unfoldable pub reading : List Token → Reading
 unfolding Level
 reading s = whole (Level full s)
 
 -- the standard reading of a text of bytes
-unfoldable pub standard : List ℕ → Result
+unfoldable pub standard : List ℕ → Reading
 unfolding reading tokens
 standard s = reading (tokens s)

@@ -4,15 +4,15 @@ use Rattle.std.specs.Prelude.{ℕ, ◌+◌, ◌-◌, ◌*◌, Bool, true, false,
 use Prim.Native.Char.{code}
 use Rattle.std.proofs.Math.Option.{Option, none, some}
 pub use Rattle.text_digits.specs.Digits.{digit}
-use Rattle.rules.specs.Tree.{Op, cmp, calc, and, or, modulo, divide, equal, not_equal, greater_or_equal, smaller_or_equal, greater, smaller, plus, minus, times}
+use Rattle.rules.specs.Tree.{Op, cmp, calc, and, or, rem, div, eq, ne, ge, le, gt, lt, plus, minus, times}
 use Rattle.reading_grammar.specs.Grammar.{Token, sign, number, mark}
 
 abbrev pub twos : List (ℕ × ℕ × Op)
-twos = (code "=", code "=", cmp equal) ∷ (code "!", code "=", cmp not_equal) ∷ (code "<", code "=", cmp smaller_or_equal) ∷ (code ">", code "=", cmp greater_or_equal)
+twos = (code "=", code "=", cmp eq) ∷ (code "!", code "=", cmp ne) ∷ (code "<", code "=", cmp le) ∷ (code ">", code "=", cmp ge)
     ∷ (code "&", code "&", and) ∷ (code "|", code "|", or) ∷ []
 
 abbrev pub ones : List (ℕ × Op)
-ones = (code "%", modulo) ∷ (code "/", divide) ∷ (code "*", calc times) ∷ (code "+", calc plus) ∷ (code "-", calc minus) ∷ (code "<", cmp smaller) ∷ (code ">", cmp greater) ∷ []
+ones = (code "%", rem) ∷ (code "/", div) ∷ (code "*", calc times) ∷ (code "+", calc plus) ∷ (code "-", calc minus) ∷ (code "<", cmp lt) ∷ (code ">", cmp gt) ∷ []
 
 abbrev pub find_two : List (ℕ × ℕ × Op) → ℕ → ℕ → Option Op
 find_two [] b c = none

@@ -7,9 +7,9 @@ use native.Mathlib.Numerals.{add-one}
 use lib.ListN.{length, get_or, take, drop}
 use lib.Seq.{drop-cons}
 use borrow.Author.Tests.{lt-ltb, le-ltb}
-use Rattle.rules.specs.Tree.{modulo}
+use Rattle.rules.specs.Tree.{rem}
 use Rattle.rules.specs.Operator.{op_code}
-use Rattle.rules.specs.Nodes.{pair_op, ternary_node}
+use Rattle.rules.specs.Pool.{pair_op, ternary_node}
 use Rattle.reading_scan.specs.Scan.{index_of}
 use Rattle.reading_levels.specs.Levels.{row, rows, binary, row_at, row_of, code_of}
 
@@ -47,7 +47,7 @@ right (suc (suc (suc (suc (suc (suc (suc (suc (suc (suc l)))))))))) h = absurd (
 -- the loop over the rows: the next, the one that has a match, and none
 module _ (s : List ℕ) (l : ℕ) (was : row_of rows s ≡ l + row_of (drop l rows) s) where
   here : l < 10 → drop l rows ≡ row_at l ∷ drop (l + 1) rows
-  here h = rw (add-one, drop-cons rows l (row [] (binary modulo)) h)
+  here h = rw (add-one, drop-cons rows l (row [] (binary rem)) h)
 
   pub row_on : l < 10 → length s ≤ index_of (row_at l).pattern s → row_of rows s ≡ l + 1 + row_of (drop (l + 1) rows) s
   unfolding row_of

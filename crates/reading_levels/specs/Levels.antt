@@ -1,7 +1,8 @@
--- The levels of the Shipped reading: `parse_and`, `parse_or`, .. `parse_mod` of the Rust's plurals.rs as rows of one table. SPEC 6.3.
+-- The levels of the Shipped reading: `parse_and`, `parse_or`, .. `parse_mod` of the Rust's plurals.rs as rows of one table. Document 01,
+-- "Two readings of a rule".
 use Rattle.std.specs.Prelude.{ℕ, suc, Bool, true, false, List, [], ◌∷◌, length, get_or, ltb}
-use Rattle.rules.specs.Tree.{Op, cmp, and, or, modulo, equal, not_equal, greater_or_equal, smaller_or_equal, greater, smaller}
-use Rattle.rules.specs.Nodes.{ternary_node}
+use Rattle.rules.specs.Tree.{Op, cmp, and, or, rem, eq, ne, ge, le, gt, lt}
+use Rattle.rules.specs.Pool.{ternary_node}
 use Rattle.rules.specs.Store.{node_code}
 use Rattle.reading_scan.specs.Scan.{index_of}
 
@@ -23,13 +24,13 @@ rows =
     row (38 ∷ 38 ∷ []) (binary and) ∷
     row (124 ∷ 124 ∷ []) (binary or) ∷
     row (63 ∷ []) ternary ∷
-    row (62 ∷ 61 ∷ []) (binary (cmp greater_or_equal)) ∷
-    row (62 ∷ []) (binary (cmp greater)) ∷
-    row (60 ∷ 61 ∷ []) (binary (cmp smaller_or_equal)) ∷
-    row (60 ∷ []) (binary (cmp smaller)) ∷
-    row (61 ∷ 61 ∷ []) (binary (cmp equal)) ∷
-    row (33 ∷ 61 ∷ []) (binary (cmp not_equal)) ∷
-    row (37 ∷ []) (binary modulo) ∷
+    row (62 ∷ 61 ∷ []) (binary (cmp ge)) ∷
+    row (62 ∷ []) (binary (cmp gt)) ∷
+    row (60 ∷ 61 ∷ []) (binary (cmp le)) ∷
+    row (60 ∷ []) (binary (cmp lt)) ∷
+    row (61 ∷ 61 ∷ []) (binary (cmp eq)) ∷
+    row (33 ∷ 61 ∷ []) (binary (cmp ne)) ∷
+    row (37 ∷ []) (binary rem) ∷
     []
 
 -- `index_of` gives a place: the pattern stands in the text, outside brackets
@@ -38,7 +39,7 @@ found pat s = ltb (index_of pat s) (length s)
 
 -- the row at a place of the table; the first that has a match, or the table's length
 abbrev pub row_at : ℕ → Row
-row_at l = get_or rows l (row [] (binary modulo))
+row_at l = get_or rows l (row [] (binary rem))
 
 unfoldable pub row_of : List Row → List ℕ → ℕ
 row_of [] s = 0

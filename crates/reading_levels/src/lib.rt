@@ -12,16 +12,16 @@ const SIGNS: [u8; 20] = *b"&&||?\0>=>\0<=<\0==!=%\0";
 const WIDTHS: [usize; 10] = [2, 2, 1, 2, 1, 2, 1, 2, 2, 1];
 
 const CODES: [u8; 10] = [
-    node::PAIR_OP + node::AND,
-    node::PAIR_OP + node::OR,
+    node::OP + node::AND,
+    node::OP + node::OR,
     node::TERNARY,
-    node::PAIR_OP + node::GREATER_OR_EQUAL,
-    node::PAIR_OP + node::GREATER,
-    node::PAIR_OP + node::SMALLER_OR_EQUAL,
-    node::PAIR_OP + node::SMALLER,
-    node::PAIR_OP + node::EQUAL,
-    node::PAIR_OP + node::NOT_EQUAL,
-    node::PAIR_OP + node::MODULO,
+    node::OP + node::GREATER_OR_EQUAL,
+    node::OP + node::GREATER,
+    node::OP + node::SMALLER_OR_EQUAL,
+    node::OP + node::SMALLER,
+    node::OP + node::EQUAL,
+    node::OP + node::NOT_EQUAL,
+    node::OP + node::MODULO,
 ];
 
 // How many signs the pattern of a row has.

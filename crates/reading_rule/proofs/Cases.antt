@@ -1,4 +1,4 @@
--- Rules in both readings, computed from the definition: what the rules of SPEC 17.1, in the table of crate `starred`, do not show. Assumes
+-- Rules in both readings, computed from the definition: what document 01's starred rules, in the table of crate `starred`, do not show. Assumes
 -- nothing.
 use Prim.Native.Nat.{ℕ}
 use mathlib.Core.Path.{◌≡◌, refl}

@@ -31,7 +31,7 @@ pub record IsRule (s : List ℕ) (t : Tree) : Type 0 where
 never : {e : Refusal} {t : Tree} → norule e ≡ rule t → ⊥
 never e = let z : ◌≡◌ {A = ℕ} 0 1 = cc in omega arith
 
-made_tree : (w : Where) (x : tree.Result) {t : Tree} → made w x ≡ rule t → x ≡ tree.tree t
+made_tree : (w : Where) (x : tree.Reading) {t : Tree} → made w x ≡ rule t → x ≡ tree.tree t
 unfolding made
 made_tree w (tree.tree u) {t} e = let z : u ≡ t = cc in ap tree.tree z
 made_tree w tree.none e = absurd (never e)

@@ -1,5 +1,5 @@
 -- Every node takes a byte of the rule's text of its own, so that a rule that is read, which has at most 512 bytes, has at most 512 nodes: a
--- room for 512 nodes is always enough. SPEC 2. Assumes nothing.
+-- pool of 512 nodes is never full. SPEC 2. Assumes nothing.
 use Prim.Native.Nat.{ℕ, ◌≤◌}
 use mathlib.Core.Path.{◌≡◌, refl}
 use mathlib.Core.List.{List}
@@ -28,7 +28,7 @@ nodes_at_most_bytes Standard s t e = standard_nodes s t e
 abbrev Few : Parse → Type 0
 Few p = size (tree_in p) ≤ 512
 
-few_made : (place : Where) (o : tree.Result) {n : ℕ} → n ≤ 512 → ((t : Tree) → o ≡ tree.tree t → size t ≤ n) → Few (made place o)
+few_made : (place : Where) (o : tree.Reading) {n : ℕ} → n ≤ 512 → ((t : Tree) → o ≡ tree.tree t → size t ≤ n) → Few (made place o)
 unfolding made size
 few_made place (tree.tree t) h w = omega (arith, w t refl)
 few_made place tree.none h w = omega arith

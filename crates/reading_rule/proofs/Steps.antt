@@ -1,27 +1,27 @@
--- The steps of the code against the definition: what a reader's answer says of the reading, and which
+-- The steps of the code against the definition: the bytes as a loop meets them, what a reader's answer says of the reading, and which
 -- case each test leaves. Assumes nothing.
 use Prim.Native.Nat.{ℕ, ◌+◌, ◌-◌, ◌<◌, ◌≤◌}
 use mathlib.Core.Path.{◌≡◌, refl, sym, ap, ◌∙◌}
 use mathlib.Core.Bool.{Bool, true, false, not}
-use mathlib.Core.List.{List, [], ◌∷◌}
+use mathlib.Core.List.{List}
 use native.Mathlib.Omega.{arith}
-use borrow.Author.Tests.{lt-ltb, le-ltb, ltb-true, ltb-false, le-leb, lt-leb}
-use lib.ListN.{length}
+use borrow.Author.Tests.{lt-ltb, le-ltb}
+use lib.ListN.{length, get_or, drop}
 use lib.Dec.{ltb}
-use Rattle.text.specs.Bytes.{within, all}
+use Rattle.text.specs.Bytes.{all}
 use Rattle.text_trim.specs.Trim.{trim, white_space}
-use Rattle.text.proofs.Tests.{by_test}
+use Rattle.text.proofs.Walk.{rest_at, rest_end}
 use Rattle.rules.specs.Tree as tree
 use Rattle.rules.specs.Tree.{Tree}
-use Rattle.rules.specs.Nodes.{Nodes, tree_of}
+use Rattle.rules.specs.Pool.{Pool, tree_of}
 use Rattle.rules.specs.Promise.{Plain}
 use Rattle.rules.specs.Pack.{packed_size, packed}
 use Rattle.rules.proofs.Packs.{no_more}
 use Rattle.rules.proofs.Unfolded.{size_pos, stored_tree, stored_plain}
 use Rattle.rules.specs.Store.{size, store, blank}
 use Rattle.rules.specs.Reads.{Answered}
-use Rattle.rules.specs.declared.ReadNodes.{ReadNodes}
-use Rattle.rules.specs.declared.ReadNodes.TheVariants.{Read, NoReading}
+use Rattle.rules.specs.declared.Nodes.{Nodes}
+use Rattle.rules.specs.declared.Nodes.TheVariants.{Read, NoReading}
 use Rattle.reading_grammar.specs.Reading.{standard}
 use Rattle.reading_shipped.specs.Shipped.{shipped}
 use Rattle.reading_rule.specs.declared.Reading.{Reading}
@@ -33,30 +33,38 @@ use Rattle.refusal.specs.declared.Error.TheVariants.{PluralParsing, RuleTooLong}
 use Rattle.refusal.specs.declared.Outcome.TheVariants as outcome
 use Rattle.reading_rule.specs.Plurals.{Parse, rule, norule, read_as, made, is_ascii, tested, parsed, Parses}
 
--- a byte below 128 is one from 0 to 127
-ascii_within : (s : List ℕ) → all (within (0, 127)) s ≡ all is_ascii s
-unfolding all
-ascii_within [] = refl
-ascii_within (b ∷ s) =
-    by_test (all (within (0, 127)) (b ∷ s) ≡ all is_ascii (b ∷ s)) (ltb b 128)
-    (λ e. rw (e, le-leb b 127 (omega (arith, ltb-true b 128 e)), le-leb 0 b (omega arith)) (ascii_within s))
-    (λ e. rw (e, lt-leb b 127 (omega (arith, ltb-false b 128 e)), le-leb 0 b (omega arith)))
+-- all bytes before i are below 128
+abbrev pub Passed : List ℕ → ℕ → Type 0
+Passed s i = all is_ascii s ≡ all is_ascii (drop i s)
 
-pub parses : {p q : Parse} {Q : Nodes} {r : Parsed} → p ≡ q → Parses q Q r → Parses p Q r
+module _ (s : List ℕ) (i : ℕ) (e : Passed s i) where
+  pub ascii_more : i < length s → get_or s i 0 < 128 → Passed s (i + 1)
+  unfolding all
+  ascii_more h l = e ∙ rw (rest_at s i h, lt-ltb (get_or s i 0) 128 l)
+
+  pub ascii_not : i < length s → 128 ≤ get_or s i 0 → false ≡ all is_ascii s
+  unfolding all
+  ascii_not h l = sym (e ∙ rw (rest_at s i h, le-ltb (get_or s i 0) 128 l))
+
+  pub ascii_end : length s ≤ i → true ≡ all is_ascii s
+  unfolding all
+  ascii_end h = sym (e ∙ rw (rest_end s i h))
+
+pub parses : {p q : Parse} {Q : Pool} {r : Parsed} → p ≡ q → Parses q Q r → Parses p Q r
 parses e h = rw e h
 
-module _ {reading : Reading} {s : List ℕ} {P Q : Nodes} {r : ReadNodes} where
+module _ {reading : Reading} {s : List ℕ} {P Q : Pool} {r : Nodes} where
   pub read_shipped : reading ≡ Shipped → Answered (shipped s) s P Q r → Answered (read_as reading s) s P Q r
   read_shipped e h = rw e h
 
   pub read_standard : reading ≡ Standard → Answered (standard s) s P Q r → Answered (read_as reading s) s P Q r
   read_standard e h = rw e h
 
-pub answered : {o : tree.Result} {s : List ℕ} {P Q : Nodes} {q r : ReadNodes} → Answered o s P Q q → q ≡ r → Answered o s P Q r
+pub answered : {o : tree.Reading} {s : List ℕ} {P Q : Pool} {q r : Nodes} → Answered o s P Q q → q ≡ r → Answered o s P Q r
 answered h e = rw e at h
 
 -- no reading was found
-pub none_made : (place : Where) (o : tree.Result) {s : List ℕ} {P Q : Nodes} → Answered o s P Q NoReading → made place o ≡ norule (at place PluralParsing)
+pub none_made : (place : Where) (o : tree.Reading) {s : List ℕ} {P Q : Pool} → Answered o s P Q NoReading → made place o ≡ norule (at place PluralParsing)
 unfolding made
 none_made place (tree.tree t) a =
     let e : NoReading ≡ Read (size t) = a.read.answer in
@@ -65,14 +73,14 @@ none_made place (tree.tree t) a =
 none_made place tree.none a = refl
 
 -- a tree was found in m bytes: k is its size, and Q the arrays
-pub record Found (o : tree.Result) (m k : ℕ) (P Q : Nodes) : Type 0 where
+pub record Found (o : tree.Reading) (m k : ℕ) (P Q : Pool) : Type 0 where
   pub is_tree_lem : Tree
   pub is : o ≡ tree.tree is_tree_lem
   pub count : k ≡ size is_tree_lem
   pub stored : Q ≡ store is_tree_lem 0 P
   pub few : size is_tree_lem ≤ m
 
-pub found : (o : tree.Result) {s : List ℕ} {P Q : Nodes} {k : ℕ} → Answered o s P Q (Read k) → Found o (length s) k P Q
+pub found : (o : tree.Reading) {s : List ℕ} {P Q : Pool} {k : ℕ} → Answered o s P Q (Read k) → Found o (length s) k P Q
 found (tree.tree t) {k = k} a =
     let e : Read k ≡ Read (size t) = a.read.answer in
     record { is_tree_lem = t; is = refl; count = cc; stored = a.read.stored; few = a.read.fits }
@@ -82,7 +90,7 @@ found tree.none {k = k} a =
     absurd (omega arith)
 
 -- it can be packed, and what is packed is the tree that was found
-module _ {o : tree.Result} {m k : ℕ} {P Q : Nodes} (f : Found o m k P Q) (b : P ≡ blank) (h : m ≤ 512) where
+module _ {o : tree.Reading} {m k : ℕ} {P Q : Pool} (f : Found o m k P Q) (b : P ≡ blank) (h : m ≤ 512) where
   few : size f.is_tree ≤ 512
   few = omega (arith, f.few)
 
@@ -101,7 +109,7 @@ module _ {o : tree.Result} {m k : ℕ} {P Q : Nodes} (f : Found o m k P Q) (b : 
   pub has_room : packed_size (tree_of Q (k - 1)) ≤ 512
   has_room = rw tree_in_lem (omega (arith, no_more f.is_tree, few))
 
-  pub held : (place : Where) {R : Nodes} {n : ℕ} → R ≡ packed (tree_of Q (k - 1)) → n ≡ packed_size (tree_of Q (k - 1))
+  pub held : (place : Where) {R : Pool} {n : ℕ} → R ≡ packed (tree_of Q (k - 1)) → n ≡ packed_size (tree_of Q (k - 1))
       → Parses (made place o) R (record { outcome = outcome.Loaded; nodes = n })
   unfolding made
   held place e d =
@@ -122,14 +130,14 @@ module _ (place : Where) (reading : Reading) (s : List ℕ) {t : List ℕ} (e : 
   unfolding parsed
   of_trimmed = ap (tested place reading) (sym e)
 
-  pub long_refused : 512 < length t → parsed place reading s ≡ norule (at place RuleTooLong)
+  pub long_refused : ltb 512 (length t) ≡ true → parsed place reading s ≡ norule (at place RuleTooLong)
   unfolding tested
-  long_refused h = of_trimmed ∙ rw (tested, lt-ltb 512 (length t) h)
+  long_refused h = of_trimmed ∙ rw (tested, h)
 
-  pub foreign_refused : length t ≤ 512 → {a : Bool} → a ≡ all (within (0, 127)) t → not a ≡ true → parsed place reading s ≡ norule (at place PluralParsing)
+  pub foreign_refused : ltb 512 (length t) ≡ false → {a : Bool} → a ≡ all is_ascii t → not a ≡ true → parsed place reading s ≡ norule (at place PluralParsing)
   unfolding tested
-  foreign_refused h {a} i f = of_trimmed ∙ rw (tested, le-ltb 512 (length t) h, sym (ascii_within t) ∙ sym i ∙ not-false a f)
+  foreign_refused h {a} i f = of_trimmed ∙ rw (tested, h, sym i ∙ not-false a f)
 
-  pub passed : length t ≤ 512 → {a : Bool} → a ≡ all (within (0, 127)) t → not a ≡ false → parsed place reading s ≡ made place (read_as reading t)
+  pub passed : ltb 512 (length t) ≡ false → {a : Bool} → a ≡ all is_ascii t → not a ≡ false → parsed place reading s ≡ made place (read_as reading t)
   unfolding tested
-  passed h {a} i f = of_trimmed ∙ rw (tested, le-ltb 512 (length t) h, sym (ascii_within t) ∙ sym i ∙ not-true a f)
+  passed h {a} i f = of_trimmed ∙ rw (tested, h, sym i ∙ not-true a f)

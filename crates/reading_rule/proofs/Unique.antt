@@ -7,7 +7,7 @@ use denote.Triple.Clauses.{AtExit}
 use borrow.Fn.Kinds.{ended_of}
 use Rattle.promise.proofs.One.{OneLeft}
 use Rattle.refusal.specs.declared.Outcome.{Outcome}
-use Rattle.rules.specs.Nodes.{Nodes, nodes_of}
+use Rattle.rules.specs.Pool.{Pool, pool}
 use Rattle.reading_rule.specs.Plurals.{Parse, Parses}
 use Rattle.reading_rule.specs.declared.Parsed.{Parsed}
 use Rattle.reading_rule.proofs.parse.Reads as parse
@@ -18,18 +18,18 @@ use Rattle.reading_rule.proofs.refuse.Kinds as refuse-kinds
 abbrev made : Outcome → ℕ → Parsed
 made o k = record { outcome = o; nodes = k }
 
-pub parses_one : (p : Parse) {P Q : Nodes} (u v : Parsed) → Parses p P u → Parses p Q v → (u ≡ v) × (P ≡ Q)
+pub parses_one : (p : Parse) {P Q : Pool} (u v : Parsed) → Parses p P u → Parses p Q v → (u ≡ v) × (P ≡ Q)
 parses_one p u v a b = (ap₂ made (a.outcome ∙ sym b.outcome) (a.nodes ∙ sym b.nodes), a.stored ∙ sym b.stored)
 
--- the arrays that are lent, as nodes
-abbrev refuse_left : (κs : Lfts 3) → AtExit (ended_of 3 refuse-kinds.ps refuse-kinds.r) κs → Nodes
-refuse_left κs x = nodes_of x.1.0.now x.1.1.0.now x.1.1.1.0.now
+-- the arrays that are lent, as a pool
+abbrev refuse_left : (κs : Lfts 3) → AtExit (ended_of 3 refuse-kinds.ps refuse-kinds.r) κs → Pool
+refuse_left κs x = pool x.1.0.now x.1.1.0.now x.1.1.1.0.now
 
 pub refuse_one : OneLeft 3 refuse-kinds.ps refuse-kinds.r refuse.Post refuse_left
 refuse_one κs a u v x y p q = parses_one _ u v p q
 
-abbrev parse_left : (κs : Lfts 4) → AtExit (ended_of 4 parse-kinds.ps parse-kinds.r) κs → Nodes
-parse_left κs x = nodes_of x.1.1.1.0.now x.1.1.1.1.0.now x.1.1.1.1.1.0.now
+abbrev parse_left : (κs : Lfts 4) → AtExit (ended_of 4 parse-kinds.ps parse-kinds.r) κs → Pool
+parse_left κs x = pool x.1.1.1.0.now x.1.1.1.1.0.now x.1.1.1.1.1.0.now
 
 pub parse_one : OneLeft 4 parse-kinds.ps parse-kinds.r parse.Post parse_left
 parse_one κs a u v x y p q = parses_one _ u v p q

@@ -11,7 +11,7 @@ use Rattle.refusal.specs.declared.Outcome.{Outcome}
 use Rattle.refusal.specs.declared.Outcome.TheVariants as outcome
 use Rattle.rules.specs.Tree as tree
 use Rattle.rules.specs.Tree.{Tree, default_tree}
-use Rattle.rules.specs.Nodes.{Nodes}
+use Rattle.rules.specs.Pool.{Pool}
 use Rattle.rules.specs.Pack.{packed_size, packed}
 use Rattle.reading_grammar.specs.Reading.{standard}
 use Rattle.reading_shipped.specs.Shipped.{shipped}
@@ -25,11 +25,11 @@ pub data Parse : Type 0 where
   norule : Refusal → Parse
 
 -- what the chosen reading makes of a text
-abbrev pub read_as : Reading → List ℕ → tree.Result
+abbrev pub read_as : Reading → List ℕ → tree.Reading
 read_as Shipped s = shipped s
 read_as Standard s = standard s
 
-unfoldable pub made : Where → tree.Result → Parse
+unfoldable pub made : Where → tree.Reading → Parse
 made place (tree.tree t) = rule t
 made place tree.none = norule (at place PluralParsing)
 
@@ -58,7 +58,7 @@ outcome_of (rule t) = outcome.Loaded
 outcome_of (norule e) = outcome.Refused e
 
 -- the outcome, and the tree packed and alone in the arrays, which at exit are Q
-pub record Parses (p : Parse) (Q : Nodes) (r : Parsed) : Type 0 where
+pub record Parses (p : Parse) (Q : Pool) (r : Parsed) : Type 0 where
   pub outcome : r.outcome ≡ outcome_of p
   pub nodes : r.nodes ≡ packed_size (tree_in p)
   pub stored : Q ≡ packed (tree_in p)

@@ -1,9 +1,10 @@
 // A plural rule from its text, in the reading that the caller chooses, with the refusals that are common to both. A port of plurals.rs,
 // `Ast::parse`, as its callers use it; the packed nodes go into arrays that the caller lends.
 ghost use Rattle.std.specs.Prelude.{◌≡◌, ◌≤◌, length};
-ghost use Rattle.rules.specs.Nodes.{nodes_of};
+ghost use Rattle.text.specs.Bytes.{all};
+ghost use Rattle.rules.specs.Pool.{pool};
 ghost use Rattle.rules.specs.Reads.{Answered};
-ghost use Rattle.reading_rule.specs.Plurals.{norule, read_as, made, parsed, Parses};
+ghost use Rattle.reading_rule.specs.Plurals.{norule, read_as, made, is_ascii, parsed, Parses};
 
 use refusal::{Error, Outcome, Refusal, Where};
 
@@ -25,16 +26,30 @@ pub struct Parsed {
 pub fn refuse(
     refusal: Refusal,
     codes: &mut [u8; 512],
-    fields: &mut [u16; 1024],
+    places: &mut [u16; 1024],
     values: &mut [u64; 512],
 ) -> Parsed
-    ensures { Parses (norule refusal) (nodes_of codes.new fields.new values.new) result }
+    ensures { Parses (norule refusal) (pool codes.new places.new values.new) result }
 {
-    let nodes = rules::put_default(codes, fields, values);
+    let nodes = rules::put_default(codes, places, values);
     Parsed {
         outcome: Outcome::Refused(refusal),
         nodes,
     }
+}
+
+// Whether every byte is below 128.
+fn ascii(s: &[u8]) -> bool
+    ensures { result ≡ all is_ascii s.now }
+{
+    let mut i = 0;
+    while i < s.len() {
+        if 128 <= s[i] {
+            return false;
+        }
+        i += 1;
+    }
+    true
 }
 
 // Hands the text and the arrays to the chosen reader.
@@ -42,17 +57,17 @@ fn read(
     s: &[u8],
     reading: Reading,
     codes: &mut [u8; 512],
-    fields: &mut [u16; 1024],
+    places: &mut [u16; 1024],
     values: &mut [u64; 512],
-) -> rules::ReadNodes
+) -> rules::Nodes
     requires { length s.now ≤ 512 }
     ensures { Answered (read_as reading s.now) s.now
-        (nodes_of codes.old fields.old values.old)
-        (nodes_of codes.new fields.new values.new) result }
+        (pool codes.old places.old values.old)
+        (pool codes.new places.new values.new) result }
 {
     match reading {
-        Reading::Shipped => reading_shipped::shipped(s, codes, fields, values),
-        Reading::Standard => reading_standard::standard(s, codes, fields, values),
+        Reading::Shipped => reading_shipped::shipped(s, codes, places, values),
+        Reading::Standard => reading_standard::standard(s, codes, places, values),
     }
 }
 
@@ -62,21 +77,21 @@ fn rule_of(
     place: Where,
     reading: Reading,
     codes: &mut [u8; 512],
-    fields: &mut [u16; 1024],
+    places: &mut [u16; 1024],
     values: &mut [u64; 512],
 ) -> Parsed
     requires { length s.now ≤ 512 }
-    ensures { Parses (made place (read_as reading s.now)) (nodes_of codes.new fields.new values.new) result }
+    ensures { Parses (made place (read_as reading s.now)) (pool codes.new places.new values.new) result }
 {
     let mut heads = [0u8; 512];
-    let mut cells = [0u16; 1024];
+    let mut fields = [0u16; 1024];
     let mut ints = [0u64; 512];
-    let read = read(s, reading, &mut heads, &mut cells, &mut ints);
-    let rules::ReadNodes::Read(count) = read else {
-        let why = refusal::at(place, Error::PluralParsing);
-        return refuse(why, codes, fields, values);
+    let read = read(s, reading, &mut heads, &mut fields, &mut ints);
+    let rules::Nodes::Read(count) = read else {
+        let why = refusal::at(place, Error::PluralParsing); // no reading
+        return refuse(why, codes, places, values);
     };
-    let nodes = rules_pack::pack(&heads, &cells, &ints, count - 1, codes, fields, values);
+    let nodes = rules_pack::pack(&heads, &fields, &ints, count - 1, codes, places, values);
     Parsed {
         outcome: Outcome::Loaded,
         nodes,
@@ -90,19 +105,21 @@ pub fn parse(
     place: Where,
     reading: Reading,
     codes: &mut [u8; 512],
-    fields: &mut [u16; 1024],
+    places: &mut [u16; 1024],
     values: &mut [u64; 512],
 ) -> Parsed
-    ensures { Parses (parsed place reading text.now) (nodes_of codes.new fields.new values.new) result }
+    ensures { Parses (parsed place reading text.now) (pool codes.new places.new values.new) result }
 {
     let s = text_trim::trim(text, text_trim::Set::WhiteSpace);
-    if rules::MOST_BYTES < s.len() {
+    let long = rules::MOST < s.len();
+    let foreign = !ascii(s);
+    if long {
         let why = refusal::at(place, Error::RuleTooLong);
-        return refuse(why, codes, fields, values);
+        return refuse(why, codes, places, values);
     }
-    if !text::all_within(s, 0, 127) {
-        let why = refusal::at(place, Error::PluralParsing);
-        return refuse(why, codes, fields, values);
+    if foreign {
+        let why = refusal::at(place, Error::PluralParsing); // a byte of 128 or more
+        return refuse(why, codes, places, values);
     }
-    rule_of(s, place, reading, codes, fields, values)
+    rule_of(s, place, reading, codes, places, values)
 }

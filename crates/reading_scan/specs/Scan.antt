@@ -1,4 +1,5 @@
--- What the Shipped reading looks for in a text of bytes. The Rust's plurals.rs: the folds of `index_of` and `parse_parens`. SPEC 6.3.
+-- What the Shipped reading looks for in a text of bytes. The Rust's plurals.rs: the folds of `index_of` and `parse_parens`. Document 01,
+-- "Two readings of a rule".
 use Rattle.std.specs.Prelude.{ℕ, ◌+◌, ◌-◌, Bool, true, false, ◌&&◌, List, [], ◌∷◌, length, get_or, ltb, eqb}
 
 -- `Some(ch) == pat.chars().nth(n)`

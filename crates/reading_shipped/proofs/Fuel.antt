@@ -8,7 +8,7 @@ use native.Mathlib.Omega.{arith}
 use lib.ListN.{length, get_or, take, drop, length-take, length-drop}
 use lib.Dec.{ltb, eqb}
 use borrow.Author.Tests.{ltb-true, eqb-true}
-use Rattle.rules.specs.Tree.{Result}
+use Rattle.rules.specs.Tree.{Reading}
 use Rattle.text_trim.specs.Trim.{trim, six}
 use Rattle.text_trim.proofs.Trimming.{trim_le}
 use Rattle.reading_scan.specs.Scan.{index_of, end_from}
@@ -20,8 +20,8 @@ inside_length s = simp (length-take, length-drop) (omega arith)
 
 -- two branches that are the same where they are taken
 same_if :
-    (b : Bool) {x y u v : Result} → (b ≡ true → x ≡ u) → (b ≡ false → y ≡ v) →
-    ◌≡◌ {A = Result} (elim b [ true ↦ x | false ↦ y ]) (elim b [ true ↦ u | false ↦ v ])
+    (b : Bool) {x y u v : Reading} → (b ≡ true → x ≡ u) → (b ≡ false → y ≡ v) →
+    ◌≡◌ {A = Reading} (elim b [ true ↦ x | false ↦ y ]) (elim b [ true ↦ u | false ↦ v ])
 same_if true h k = h refl
 same_if false h k = k refl
 
@@ -34,7 +34,7 @@ pub rows_solid : Solid rows
 unfolding Solid
 rows_solid = omega arith
 
-module _ (p q : List ℕ → Result) where
+module _ (p q : List ℕ → Reading) where
   Agree : ℕ → Type 0
   Agree n = (t : List ℕ) → length t < n → p t ≡ q t
 

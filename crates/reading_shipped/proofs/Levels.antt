@@ -6,43 +6,43 @@ use mathlib.Core.List.{List, [], ◌∷◌}
 use native.Mathlib.Omega.{arith}
 use lib.ListN.{length, get_or}
 use borrow.Author.Tests.{ltb-true}
-use Rattle.rules.specs.Tree.{modulo, Result}
+use Rattle.rules.specs.Tree.{rem, Reading}
 use Rattle.text_trim.specs.Trim.{trim, six}
 use Rattle.reading_scan.specs.Scan.{index_of}
 use Rattle.reading_levels.specs.Levels.{Row, row, rows, binary, found, row_at, row_of}
 use Rattle.reading_shipped.specs.Shipped.{cut_at, read_not, level, shipped}
 
 -- the first row with a match says how the text is cut; without one the text goes on to `parse_not`
-row_found : (rs : List Row) (s : List ℕ) → row_of rs s < length rs → found (get_or rs (row_of rs s) (row [] (binary modulo))).pattern s ≡ true
+row_found : (rs : List Row) (s : List ℕ) → row_of rs s < length rs → found (get_or rs (row_of rs s) (row [] (binary rem))).pattern s ≡ true
 unfolding row_of
 row_found [] s h = absurd (omega arith)
 row_found (r ∷ rs) s h = go (found r.pattern s) refl (row_found rs s) h
   where
     go :
         (b : Bool) → found r.pattern s ≡ b →
-        (row_of rs s < length rs → found (get_or rs (row_of rs s) (row [] (binary modulo))).pattern s ≡ true) →
+        (row_of rs s < length rs → found (get_or rs (row_of rs s) (row [] (binary rem))).pattern s ≡ true) →
         elim b [ true ↦ 0 | false ↦ suc (row_of rs s) ] < suc (length rs) →
-        found (get_or (r ∷ rs) (elim b [ true ↦ 0 | false ↦ suc (row_of rs s) ]) (row [] (binary modulo))).pattern s ≡ true
+        found (get_or (r ∷ rs) (elim b [ true ↦ 0 | false ↦ suc (row_of rs s) ]) (row [] (binary rem))).pattern s ≡ true
     go true e g h = e
     go false e g h = g (omega arith)
 
 level_at :
-    (parse : List ℕ → Result) (rs : List Row) (s : List ℕ) → row_of rs s < length rs →
-    level parse rs s ≡ cut_at parse (get_or rs (row_of rs s) (row [] (binary modulo))) s
+    (parse : List ℕ → Reading) (rs : List Row) (s : List ℕ) → row_of rs s < length rs →
+    level parse rs s ≡ cut_at parse (get_or rs (row_of rs s) (row [] (binary rem))) s
 unfolding row_of level
 level_at parse [] s h = absurd (omega arith)
 level_at parse (r ∷ rs) s h = go (found r.pattern s) (level_at parse rs s) h
   where
     go :
-        (b : Bool) → (row_of rs s < length rs → level parse rs s ≡ cut_at parse (get_or rs (row_of rs s) (row [] (binary modulo))) s) →
+        (b : Bool) → (row_of rs s < length rs → level parse rs s ≡ cut_at parse (get_or rs (row_of rs s) (row [] (binary rem))) s) →
         elim b [ true ↦ 0 | false ↦ suc (row_of rs s) ] < suc (length rs) →
-        ◌≡◌ {A = Result} (elim b [ true ↦ cut_at parse r s | false ↦ level parse rs s ])
-        (cut_at parse (get_or (r ∷ rs) (elim b [ true ↦ 0 | false ↦ suc (row_of rs s) ]) (row [] (binary modulo))) s)
+        ◌≡◌ {A = Reading} (elim b [ true ↦ cut_at parse r s | false ↦ level parse rs s ])
+        (cut_at parse (get_or (r ∷ rs) (elim b [ true ↦ 0 | false ↦ suc (row_of rs s) ]) (row [] (binary rem))) s)
     go true g h = refl
     go false g h = g (omega arith)
 
 level_past :
-    (parse : List ℕ → Result) (rs : List Row) (s : List ℕ) → length rs ≤ row_of rs s → level parse rs s ≡ read_not parse (trim six s)
+    (parse : List ℕ → Reading) (rs : List Row) (s : List ℕ) → length rs ≤ row_of rs s → level parse rs s ≡ read_not parse (trim six s)
 unfolding row_of level
 level_past parse [] s h = refl
 level_past parse (r ∷ rs) s h = go (found r.pattern s) (level_past parse rs s) h
@@ -50,7 +50,7 @@ level_past parse (r ∷ rs) s h = go (found r.pattern s) (level_past parse rs s)
     go :
         (b : Bool) → (length rs ≤ row_of rs s → level parse rs s ≡ read_not parse (trim six s)) →
         suc (length rs) ≤ elim b [ true ↦ 0 | false ↦ suc (row_of rs s) ] →
-        ◌≡◌ {A = Result} (elim b [ true ↦ cut_at parse r s | false ↦ level parse rs s ]) (read_not parse (trim six s))
+        ◌≡◌ {A = Reading} (elim b [ true ↦ cut_at parse r s | false ↦ level parse rs s ]) (read_not parse (trim six s))
     go true g h = absurd (omega arith)
     go false g h = g (omega arith)
 

@@ -10,7 +10,7 @@ use lib.ListN.{length, get_or, take, drop, length-take, length-drop}
 use lib.Dec.{ltb, eqb}
 use Rattle.text_trim.specs.Trim.{trim, trim_start, trim_end, edge_after, six}
 use Rattle.text_trim.proofs.Trimming.{trim_le}
-use Rattle.rules.specs.Tree.{Tree, var, int, negate, bin, cond, Op, Result, tree, none}
+use Rattle.rules.specs.Tree.{Tree, var, int, nay, bin, cond, Op, Reading, tree, none}
 use Rattle.rules.specs.Store.{size}
 use Rattle.text_digits.specs.Digits.{integer}
 use Rattle.text_digits.specs.declared.Number.{Number}
@@ -21,7 +21,7 @@ use Rattle.reading_shipped.specs.Shipped.{one, two, three, read_n, or_n, read_in
 use Rattle.reading_shipped.proofs.Fuel.{Solid, rows_solid}
 
 -- a tree of at most n nodes, if any
-record Small (o : Result) (n : ℕ) : Type 0 where
+record Small (o : Reading) (n : ℕ) : Type 0 where
   is : (t : Tree) → o ≡ tree t → size t ≤ n
 
 none_small : {n : ℕ} → Small none n
@@ -30,26 +30,26 @@ none_small = record { is = λ t e. let z : ◌≡◌ {A = ℕ} 0 1 = cc in absur
 tree_small : (t : Tree) {n : ℕ} → size t ≤ n → Small (tree t) n
 tree_small t h = record { is = λ u e. let d : u ≡ t = cc in rw d h }
 
-wider : {o : Result} {m n : ℕ} → m ≤ n → Small o m → Small o n
+wider : {o : Reading} {m n : ℕ} → m ≤ n → Small o m → Small o n
 wider h w = record { is = λ t e. omega (arith, w.is t e) }
 
-small_if : (b : Bool) {x y : Result} {n : ℕ} → (b ≡ true → Small x n) → (b ≡ false → Small y n) → Small (elim b [ true ↦ x | false ↦ y ]) n
+small_if : (b : Bool) {x y : Reading} {n : ℕ} → (b ≡ true → Small x n) → (b ≡ false → Small y n) → Small (elim b [ true ↦ x | false ↦ y ]) n
 small_if true h k = h refl
 small_if false h k = k refl
 
 -- a node over its operands
-one_small : (x : Result) {a n : ℕ} → Small x a → a + 1 ≤ n → Small (one x) n
+one_small : (x : Reading) {a n : ℕ} → Small x a → a + 1 ≤ n → Small (one x) n
 unfolding size
-one_small (tree s) w h = tree_small (negate s) (omega (arith, w.is s refl))
+one_small (tree s) w h = tree_small (nay s) (omega (arith, w.is s refl))
 one_small none w h = none_small
 
-two_small : (op : Op) (x y : Result) {a b n : ℕ} → Small x a → Small y b → a + b + 1 ≤ n → Small (two op x y) n
+two_small : (op : Op) (x y : Reading) {a b n : ℕ} → Small x a → Small y b → a + b + 1 ≤ n → Small (two op x y) n
 unfolding size
 two_small op (tree s) (tree t) v w h = tree_small (bin op s t) (omega (arith, v.is s refl, w.is t refl))
 two_small op (tree s) none v w h = none_small
 two_small op none y v w h = none_small
 
-three_small : (x y z : Result) {a b c n : ℕ} → Small x a → Small y b → Small z c → a + b + c + 1 ≤ n → Small (three x y z) n
+three_small : (x y z : Reading) {a b c n : ℕ} → Small x a → Small y b → Small z c → a + b + c + 1 ≤ n → Small (three x y z) n
 unfolding size
 three_small (tree s) (tree t) (tree u) v w r h = tree_small (cond s t u) (omega (arith, v.is s refl, w.is t refl, r.is u refl))
 three_small (tree s) (tree t) none v w r h = none_small
@@ -74,7 +74,7 @@ int_small (b ∷ s) = go (integer (b ∷ s))
     go NoNumber = wider (trim_le six (b ∷ s)) (n_small (trim six (b ∷ s)))
 
 -- each definition, where the pieces have small trees
-module _ (p : List ℕ → Result) (small : (s : List ℕ) → Small (p s) (length s)) where
+module _ (p : List ℕ → Reading) (small : (s : List ℕ) → Small (p s) (length s)) where
   not_small : (s : List ℕ) → Small (read_not p s) (length s)
   unfolding read_not
   not_small s =

@@ -8,11 +8,11 @@ use native.Mathlib.Omega.{arith}
 use lib.ListN.{length, get_or, take, drop, length-take, length-drop}
 use lib.Dec.{eqb}
 use borrow.Author.Tests.{eq-eqb, ne_eqb, lt-ltb, le-ltb}
-use Rattle.rules.specs.Tree.{var, Op, cmp, and, or, modulo, equal, not_equal, greater_or_equal, smaller_or_equal, greater, smaller, Result, tree, none}
-use Rattle.rules.specs.Nodes.{Nodes, ternary_node}
+use Rattle.rules.specs.Tree.{var, Op, cmp, and, or, rem, eq, ne, ge, le, gt, lt, Reading, tree, none}
+use Rattle.rules.specs.Pool.{Pool, ternary_node}
 use Rattle.rules.specs.Store.{node_code}
 use Rattle.rules.proofs.Operators.{code_in}
-use Rattle.rules.specs.declared.ReadNodes.{ReadNodes}
+use Rattle.rules.specs.declared.Nodes.{Nodes}
 use Rattle.text_trim.specs.Trim.{trim, six}
 use Rattle.text_digits.specs.declared.Number.{Number}
 use Rattle.text_digits.specs.Digits.{integer}
@@ -29,7 +29,7 @@ pub trimmed_le : (s t : List ℕ) → t ≡ trim six s → length t ≤ length s
 trimmed_le s t e = omega (arith, ap length e, trim_le six s)
 
 pub through :
-    (F : List ℕ → Result) (s t : List ℕ) {o : Result} {k : ℕ} {P Q : Nodes} {r : ReadNodes} →
+    (F : List ℕ → Reading) (s t : List ℕ) {o : Reading} {k : ℕ} {P Q : Pool} {r : Nodes} →
     t ≡ trim six s → o ≡ F (trim six s) → Gives (F t) (length t) k P Q r → Gives o (length s) k P Q r
 through F s t e d w = wider (d ∙ ap F (sym e)) (trimmed_le s t e) w
 
@@ -56,7 +56,7 @@ module _ (s : List ℕ) (i : ℕ) (e : i ≡ index_of bang s) where
     where
       go :
           (b c : Bool) → c ≡ false →
-          ◌≡◌ {A = Result}
+          ◌≡◌ {A = Reading}
           (elim b [ true ↦ elim c [ true ↦ one (shipped (drop 1 s)) | false ↦ read_int (trim six s) ] | false ↦ read_int (trim six s) ])
           (read_int (trim six s))
       go true true d = let z : ◌≡◌ {A = ℕ} 0 1 = cc in absurd (omega arith)
@@ -125,7 +125,7 @@ module _ (s : List ℕ) (first : ℕ) (e : first ≡ get_or s 0 0) where
           )
 
 -- the parts that the code reads: the first i bytes, those from a on, and those between
-module _ (s : List ℕ) {k : ℕ} {P Q : Nodes} {r : ReadNodes} where
+module _ (s : List ℕ) {k : ℕ} {P Q : Pool} {r : Nodes} where
   pub head_gives : (i : ℕ) → Gives (shipped (take i s)) (length (take i s)) k P Q r → Gives (shipped (take i s)) i k P Q r
   head_gives i w = wider refl (simp length-take (omega arith)) w
 

@@ -5,18 +5,18 @@ use mathlib.Core.Path.{◌≡◌}
 use mathlib.Core.List.{List}
 use native.Mathlib.Omega.{arith}
 use Rattle.rules.specs.Tree.{Tree}
-use Rattle.rules.specs.Nodes.{Nodes}
+use Rattle.rules.specs.Pool.{Pool}
 use Rattle.rules.specs.Store.{size}
-use Rattle.rules.specs.declared.ReadNodes.{ReadNodes}
-use Rattle.rules.specs.declared.ReadNodes.TheVariants.{Read, NoReading}
+use Rattle.rules.specs.declared.Nodes.{Nodes}
+use Rattle.rules.specs.declared.Nodes.TheVariants.{Read, NoReading}
 use Rattle.reading_grammar.specs.Grammar.{full, Derives}
 use Rattle.reading_grammar.specs.Tokens.{tokens}
 use Rattle.reading_grammar.proofs.Complete.{agrees}
 use Rattle.rules.specs.Reads.{Stored, Answered}
 use Rattle.reading_grammar.specs.Reading.{standard}
 
-module _ {s : List ℕ} {P Q : Nodes} where
-  pub derived : {t : Tree} {r : ReadNodes} → Derives full (tokens s) t → Answered (standard s) s P Q r → Stored t s P Q r
+module _ {s : List ℕ} {P Q : Pool} where
+  pub derived : {t : Tree} {r : Nodes} → Derives full (tokens s) t → Answered (standard s) s P Q r → Stored t s P Q r
   derived {t} d a = rw ((agrees s t).1 d) at a.read
 
   pub underived : Answered (standard s) s P Q NoReading → (t : Tree) → Derives full (tokens s) t → ⊥

@@ -9,7 +9,7 @@ use lib.ListN.{length, drop}
 use lib.Dec.{eqb}
 use borrow.Author.Tests.{eq-eqb, ne_eqb}
 use Rattle.rules.specs.Tree.{Tree, bin, cond, Op}
-use Rattle.rules.specs.Nodes.{Nodes, ternary_node}
+use Rattle.rules.specs.Pool.{Pool, ternary_node}
 use Rattle.rules.specs.Store.{size, store, push, node_code}
 use Rattle.reading_grammar.specs.Grammar.{Token, sign, number, mark, rank, loosest, full}
 use Rattle.reading_grammar.specs.Tokens.{tokens}
@@ -28,37 +28,37 @@ levels_bad (suc d) j t e =
     let z : suc d + j ≡ suc (d + j) = omega arith in
     rw (z, level_suc (d + j) t, levels_bad d j t e) refl
 
-module _ {s : List ℕ} {l at k : ℕ} {P Q : Nodes} where
+module _ {s : List ℕ} {l at k : ℕ} {P Q : Pool} where
   pub by_prefix : {x : Part} → l ≡ 0 → PrefixWrote s at k P Q x → LevelWrote l s at k P Q x
   by_prefix e w = record { read = rw (e, level_zero (tokens (drop at s))) w.read }
 
-  pub by_bad : {j : ℕ} {R : Nodes} → l ≡ suc j → LevelWrote j s at k P R Bad → LevelWrote l s at k P Q Bad
+  pub by_bad : {j : ℕ} {R : Pool} → l ≡ suc j → LevelWrote j s at k P R Bad → LevelWrote l s at k P Q Bad
   by_bad {j} e w = record { read = rw (e, level_suc j (tokens (drop at s)), level_refused w) refl }
 
   -- what a tighter level refuses, every looser one does
-  pub by_bad_below : {j : ℕ} {R : Nodes} → j ≤ l → LevelWrote j s at k P R Bad → LevelWrote l s at k P Q Bad
+  pub by_bad_below : {j : ℕ} {R : Pool} → j ≤ l → LevelWrote j s at k P R Bad → LevelWrote l s at k P Q Bad
   by_bad_below {j} h w =
       let z : l - j + j ≡ l = omega arith in
       record { read = rw (← z, levels_bad (l - j) j (tokens (drop at s)) (level_refused w)) refl }
 
-  pub by_more : {j m q : ℕ} {R : Nodes} {x : Part} → l ≡ suc j → LevelWrote j s at k P R (Got m q) → MoreWrote j s q m R Q x → LevelWrote l s at k P Q x
+  pub by_more : {j m q : ℕ} {R : Pool} {x : Part} → l ≡ suc j → LevelWrote j s at k P R (Got m q) → MoreWrote j s q m R Q x → LevelWrote l s at k P Q x
   by_more {j} e w v =
       let g = level_taken w in
       record { read = rw (e, level_suc j (tokens (drop at s)), g.is) (v.read g.t at k P (stands g)) }
 
 -- a turn of the loop over the levels, and its end
-pub climbed : {s : List ℕ} {at k m q j u p : ℕ} {O Q R : Nodes} {x : Part} {v e : ℕ} → Climbs s at k O m q j Q u p → MoreWrote j s p u Q R x → x ≡ Got v e
+pub climbed : {s : List ℕ} {at k m q j u p : ℕ} {O Q R : Pool} {x : Part} {v e : ℕ} → Climbs s at k O m q j Q u p → MoreWrote j s p u Q R x → x ≡ Got v e
     → Climbs s at k O m q (j + 1) R v e
 climbed {j = j} c w g =
     record {
       goes = λ P b. let z : j + 1 ≡ suc j = omega arith in answered (by_more z (c.goes P b) w) g;
     }
 
-pub at_level : {s : List ℕ} {l j at k : ℕ} {P Q : Nodes} {x : Part} → j ≡ l → LevelWrote j s at k P Q x → LevelWrote l s at k P Q x
+pub at_level : {s : List ℕ} {l j at k : ℕ} {P Q : Pool} {x : Part} → j ≡ l → LevelWrote j s at k P Q x → LevelWrote l s at k P Q x
 at_level e w = rw (← e) w
 
 -- two trees, or three, that stand after one another, and the node over them
-joined : (op : Op) (at e h k m w q c x : ℕ) (t u : Tree) (O P R S : Nodes) → Before t h at k m O P → at < e → w ≡ m + size u → R ≡ store u m P → e + size u ≤ q
+joined : (op : Op) (at e h k m w q c x : ℕ) (t u : Tree) (O P R S : Pool) → Before t h at k m O P → at < e → w ≡ m + size u → R ≡ store u m P → e + size u ≤ q
     → node_code op ≡ c → x ≡ m - 1 → S ≡ push R w c x 0 0 → Before (bin op t u) h q k (w + 1) O S
 unfolding size store
 joined op at e h k m w q c x t u O P R S d f ew st g ec ex p = record {
@@ -67,7 +67,7 @@ joined op at e h k m w q c x t u O P R S d f ew st g ec ex p = record {
   further = omega (arith, d.further);
 }
 
-chosen : (at e i p h k m v w q x y : ℕ) (s : List ℕ) (t u n : Tree) (O P R S Q : Nodes) → Before t h at k m O P → at < e → v ≡ m + size u → R ≡ store u m P → e + size u ≤ i → i < p
+chosen : (at e i p h k m v w q x y : ℕ) (s : List ℕ) (t u n : Tree) (O P R S Q : Pool) → Before t h at k m O P → at < e → v ≡ m + size u → R ≡ store u m P → e + size u ≤ i → i < p
     → w ≡ v + size n → S ≡ store n v R → p + size n ≤ q → q ≤ length s → x ≡ m - 1 → y ≡ v - 1 → Q ≡ push S w ternary_node x y 0
     → Done (cond t u n) (tokens (drop q s)) s h k O Q (Got (w + 1) q)
 unfolding size store
@@ -90,7 +90,7 @@ no_byte b j n = rw (ne_eqb b 63 n)
 no_level : (b j : ℕ) → (j ≡ loosest → ⊥) → (eqb b 63 && eqb j loosest) ≡ false
 no_level b j n = rw (ne_eqb j loosest n) (and-false (eqb b 63))
 
-module _ {s : List ℕ} {j at m : ℕ} {P : Nodes} where
+module _ {s : List ℕ} {j at m : ℕ} {P : Pool} where
   -- nothing of this level follows
   stay : at ≤ length s → ((t : Tree) → More j t (tokens (drop at s)) ≡ got t (tokens (drop at s))) → MoreWrote j s at m P P (Got m at)
   stay i w = record {
@@ -113,10 +113,10 @@ module _ {s : List ℕ} {j at m : ℕ} {P : Nodes} where
   more_tight {b} {e} i w n = stay i (λ t. rw w.is (more_mark j t b _ ∙ left_if _ _ (no_level b j n)))
 
   -- a binary operator
-  pub more_bad : {op : Op} {e : ℕ} {R Q : Nodes} → Step s at (sign op) e → rank op ≡ suc j → LevelWrote j s e m P R Bad → MoreWrote j s at m P Q Bad
+  pub more_bad : {op : Op} {e : ℕ} {R Q : Pool} → Step s at (sign op) e → rank op ≡ suc j → LevelWrote j s e m P R Bad → MoreWrote j s at m P Q Bad
   more_bad {op} {e} w i v = record { read = λ t h k O b. rw (w.is, more_sign j t op (tokens (drop e s)), eq-eqb _ _ i, level_refused v) refl }
 
-  pub more_more : {op : Op} {e q n c x : ℕ} {R S Q : Nodes} {z : Part} → Step s at (sign op) e → rank op ≡ suc j → node_code op ≡ c → LevelWrote j s e m P R (Got n q)
+  pub more_more : {op : Op} {e q n c x : ℕ} {R S Q : Pool} {z : Part} → Step s at (sign op) e → rank op ≡ suc j → node_code op ≡ c → LevelWrote j s e m P R (Got n q)
       → x ≡ m - 1 → S ≡ push R n c x 0 0 → MoreWrote j s q (n + 1) S Q z → MoreWrote j s at m P Q z
   more_more {op} {e} {q} {n} {c} {x} {R} {S} {Q} {z} w i ec v ex p a =
       let g = level_taken v in
@@ -126,21 +126,21 @@ module _ {s : List ℕ} {j at m : ℕ} {P : Nodes} where
       }
 
   -- the condition
-  pub ask_bad : {b e : ℕ} {R Q : Nodes} → Step s at (mark b) e → b ≡ 63 → j ≡ loosest → LevelWrote full s e m P R Bad → MoreWrote j s at m P Q Bad
+  pub ask_bad : {b e : ℕ} {R Q : Pool} → Step s at (mark b) e → b ≡ 63 → j ≡ loosest → LevelWrote full s e m P R Bad → MoreWrote j s at m P Q Bad
   ask_bad {b} {e} w i f v = record { read = λ t h k O d. rw (w.is, asks t (tokens (drop e s)) i f, level_refused v) refl }
 
-  pub ask_open : {b e v i : ℕ} {R Q : Nodes} → Step s at (mark b) e → b ≡ 63 → j ≡ loosest → LevelWrote full s e m P R (Got v i) → NotNext 58 s i → MoreWrote j s at m P Q Bad
+  pub ask_open : {b e v i : ℕ} {R Q : Pool} → Step s at (mark b) e → b ≡ 63 → j ≡ loosest → LevelWrote full s e m P R (Got v i) → NotNext 58 s i → MoreWrote j s at m P Q Bad
   ask_open {b} {e} w z f a p =
       let g = level_taken a in
       record { read = λ t h k O d. rw (w.is, asks t (tokens (drop e s)) z f, g.is, p.ends g.t (λ u q. and_then (Level full q) (λ v w. got (cond t u v) w))) refl }
 
-  pub ask_last : {b e v i p : ℕ} {R S Q : Nodes} → Step s at (mark b) e → b ≡ 63 → j ≡ loosest → LevelWrote full s e m P R (Got v i) → Step s i (mark 58) p
+  pub ask_last : {b e v i p : ℕ} {R S Q : Pool} → Step s at (mark b) e → b ≡ 63 → j ≡ loosest → LevelWrote full s e m P R (Got v i) → Step s i (mark 58) p
       → LevelWrote full s p v R S Bad → MoreWrote j s at m P Q Bad
   ask_last {b} {e} w z f a c l =
       let g = level_taken a in
       record { read = λ t h k O d. rw (w.is, asks t (tokens (drop e s)) z f, g.is, c.is, level_refused l) refl }
 
-  pub ask_ask : {b e v i p n q x y : ℕ} {R S Q : Nodes} → Step s at (mark b) e → b ≡ 63 → j ≡ loosest → LevelWrote full s e m P R (Got v i) → Step s i (mark 58) p
+  pub ask_ask : {b e v i p n q x y : ℕ} {R S Q : Pool} → Step s at (mark b) e → b ≡ 63 → j ≡ loosest → LevelWrote full s e m P R (Got v i) → Step s i (mark 58) p
       → LevelWrote full s p v R S (Got n q) → x ≡ m - 1 → y ≡ v - 1 → Q ≡ push S n ternary_node x y 0 → MoreWrote j s at m P Q (Got (n + 1) q)
   ask_ask {b} {e} {v} {i} {p} {n} {q} {x} {y} {R} {S} {Q} w o f a c l ex ey u =
       let g = level_taken a in

@@ -5,8 +5,8 @@ use mathlib.Core.List.{List, [], ◌∷◌}
 use native.Mathlib.Omega.{arith}
 use lib.ListN.{length, drop}
 use borrow.Author.Tests.{ne_eqb, lt-ltb, le-ltb}
-use Rattle.rules.specs.Tree.{Tree, negate, Op}
-use Rattle.rules.specs.Nodes.{Nodes, not_node}
+use Rattle.rules.specs.Tree.{Tree, nay, Op}
+use Rattle.rules.specs.Pool.{Pool, nay_node}
 use Rattle.rules.specs.Store.{size, store, push}
 use Rattle.reading_grammar.specs.Grammar.{Token, sign, number, mark, full}
 use Rattle.reading_grammar.specs.Tokens.{tokens}
@@ -21,8 +21,8 @@ use Rattle.reading_grammar.proofs.Choice.{left_if}
 other : (b : ℕ) (r : List Token) → (b ≡ 110 → ⊥) → (b ≡ 33 → ⊥) → (b ≡ 40 → ⊥) → Prefix (mark b ∷ r) ≡ bad
 other b r i j k = prefix_mark b r ∙ (left_if _ _ (ne_eqb b 110 i) ∙ (left_if _ _ (ne_eqb b 33 j) ∙ left_if _ _ (ne_eqb b 40 k)))
 
-negated : (at e k m q : ℕ) (s : List ℕ) (t : Tree) (P R Q : Nodes) → at < e → m ≡ k + size t → R ≡ store t k P → e + size t ≤ q → q ≤ length s
-    → Q ≡ push R m not_node 0 0 0 → Done (negate t) (tokens (drop q s)) s at k P Q (Got (m + 1) q)
+negated : (at e k m q : ℕ) (s : List ℕ) (t : Tree) (P R Q : Pool) → at < e → m ≡ k + size t → R ≡ store t k P → e + size t ≤ q → q ≤ length s
+    → Q ≡ push R m nay_node 0 0 0 → Done (nay t) (tokens (drop q s)) s at k P Q (Got (m + 1) q)
 unfolding size store
 negated at e k m q s t P R Q f em st g l p = record {
   next = q;
@@ -33,7 +33,7 @@ negated at e k m q s t P R Q f em st g l p = record {
   within = l;
 }
 
-module _ {s : List ℕ} {at k : ℕ} {P Q : Nodes} where
+module _ {s : List ℕ} {at k : ℕ} {P Q : Pool} where
   pub prefix_end : tokens (drop at s) ≡ [] → PrefixWrote s at k P Q Bad
   prefix_end e = record { read = rw (e, prefix_nil) refl }
 
@@ -57,10 +57,10 @@ module _ {s : List ℕ} {at k : ℕ} {P Q : Nodes} where
         (record { next = e; answer = refl; rest = refl; stored = p; further = omega (arith, w.further); within = w.within });
   }
 
-  pub not_bad : {b e : ℕ} {R : Nodes} → Step s at (mark b) e → b ≡ 33 → LevelWrote 0 s e k P R Bad → PrefixWrote s at k P Q Bad
+  pub not_bad : {b e : ℕ} {R : Pool} → Step s at (mark b) e → b ≡ 33 → LevelWrote 0 s e k P R Bad → PrefixWrote s at k P Q Bad
   not_bad {b} {e} w i v = record { read = rw (w.is, i, prefix_mark 33 (tokens (drop e s)), ← level_zero (tokens (drop e s)), level_refused v) refl }
 
-  pub not_not : {b e m q : ℕ} {R : Nodes} → Step s at (mark b) e → b ≡ 33 → LevelWrote 0 s e k P R (Got m q) → Q ≡ push R m not_node 0 0 0
+  pub not_not : {b e m q : ℕ} {R : Pool} → Step s at (mark b) e → b ≡ 33 → LevelWrote 0 s e k P R (Got m q) → Q ≡ push R m nay_node 0 0 0
       → PrefixWrote s at k P Q (Got (m + 1) q)
   not_not {b} {e} {m} {q} {R} w i v p =
       let g = level_taken v in
@@ -72,10 +72,10 @@ module _ {s : List ℕ} {at k : ℕ} {P Q : Nodes} where
   pub prefix_other : {b e : ℕ} → Step s at (mark b) e → (b ≡ 110 → ⊥) → (b ≡ 33 → ⊥) → (b ≡ 40 → ⊥) → PrefixWrote s at k P Q Bad
   prefix_other {b} {e} w i j o = record { read = rw (w.is, other b (tokens (drop e s)) i j o) refl }
 
-  pub bracket_bad : {b e : ℕ} {R : Nodes} → Step s at (mark b) e → b ≡ 40 → LevelWrote full s e k P R Bad → PrefixWrote s at k P Q Bad
+  pub bracket_bad : {b e : ℕ} {R : Pool} → Step s at (mark b) e → b ≡ 40 → LevelWrote full s e k P R Bad → PrefixWrote s at k P Q Bad
   bracket_bad {b} {e} w i v = record { read = rw (w.is, i, prefix_mark 40 (tokens (drop e s)), level_refused v) refl }
 
-  pub bracket_open : {b e m q : ℕ} {R : Nodes} → Step s at (mark b) e → b ≡ 40 → LevelWrote full s e k P R (Got m q) → NotNext 41 s q → PrefixWrote s at k P Q Bad
+  pub bracket_open : {b e m q : ℕ} {R : Pool} → Step s at (mark b) e → b ≡ 40 → LevelWrote full s e k P R (Got m q) → NotNext 41 s q → PrefixWrote s at k P Q Bad
   bracket_open {b} {e} w i v y =
       let g = level_taken v in
       record { read = rw (w.is, i, prefix_mark 40 (tokens (drop e s)), g.is, y.ends g.t (λ t r. got t r)) refl }

@@ -5,7 +5,7 @@ use mathlib.Core.List.{List}
 use native.Mathlib.Omega.{arith}
 use lib.ListN.{length, drop}
 use Rattle.rules.specs.Tree.{Tree}
-use Rattle.rules.specs.Nodes.{Nodes}
+use Rattle.rules.specs.Pool.{Pool}
 use Rattle.rules.specs.Store.{size, store}
 use Rattle.rules.proofs.Unfolded.{size_pos}
 use Rattle.reading_grammar.specs.Tokens.{tokens}
@@ -15,7 +15,7 @@ use Rattle.reading_standard.specs.declared.Part.TheVariants.{Got, Bad}
 use Rattle.reading_standard.specs.Private.{Wrote, Before, LevelWrote}
 
 -- what an outcome is, by the answer
-pub record Taken (o : Outcome) (s : List ℕ) (at k : ℕ) (P Q : Nodes) (m q : ℕ) : Type 0 where
+pub record Taken (o : Outcome) (s : List ℕ) (at k : ℕ) (P Q : Pool) (m q : ℕ) : Type 0 where
   pub t : Tree
   pub is : o ≡ got t (tokens (drop q s))
   pub free : m ≡ k + size t
@@ -23,18 +23,18 @@ pub record Taken (o : Outcome) (s : List ℕ) (at k : ℕ) (P Q : Nodes) (m q : 
   pub further : at + size t ≤ q
   pub within : q ≤ length s
 
-taken : (o : Outcome) (s : List ℕ) (at k : ℕ) (P Q : Nodes) (m q : ℕ) → Wrote o s at k P Q (Got m q) → Taken o s at k P Q m q
+taken : (o : Outcome) (s : List ℕ) (at k : ℕ) (P Q : Pool) (m q : ℕ) → Wrote o s at k P Q (Got m q) → Taken o s at k P Q m q
 taken (got t r) s at k P Q m q d =
     let e : Got m q ≡ Got (k + size t) d.next = d.answer in
     let f : d.next ≡ q = cc in
     record { t = t; is = ap (got t) (d.rest ∙ rw f); free = cc; stored = d.stored; further = omega (arith, d.further); within = omega (arith, d.within) }
 taken bad s at k P Q m q d = let z : ◌≡◌ {A = ℕ} 0 1 = cc in absurd (omega arith)
 
-refused : (o : Outcome) (s : List ℕ) (at k : ℕ) (P Q : Nodes) → Wrote o s at k P Q Bad → o ≡ bad
+refused : (o : Outcome) (s : List ℕ) (at k : ℕ) (P Q : Pool) → Wrote o s at k P Q Bad → o ≡ bad
 refused (got t r) s at k P Q d = let e : Bad ≡ Got (k + size t) d.next = d.answer in let z : ◌≡◌ {A = ℕ} 0 1 = cc in absurd (omega arith)
 refused bad s at k P Q d = refl
 
-module _ {l : ℕ} {s : List ℕ} {at k : ℕ} {P Q : Nodes} where
+module _ {l : ℕ} {s : List ℕ} {at k : ℕ} {P Q : Pool} where
   pub level_taken : {m q : ℕ} → LevelWrote l s at k P Q (Got m q) → Taken (Level l (tokens (drop at s))) s at k P Q m q
   level_taken {m} {q} w = taken (Level l (tokens (drop at s))) s at k P Q m q w.read
 
@@ -49,5 +49,5 @@ module _ {l : ℕ} {s : List ℕ} {at k : ℕ} {P Q : Nodes} where
   gave w e = let g = level_taken (answered w e) in omega (arith, g.free, g.further, g.within, size_pos g.t)
 
 -- a tree that was taken stands before what is read next
-pub stands : {o : Outcome} {s : List ℕ} {at k : ℕ} {P Q : Nodes} {m q : ℕ} (g : Taken o s at k P Q m q) → Before g.t at q k m P Q
+pub stands : {o : Outcome} {s : List ℕ} {at k : ℕ} {P Q : Pool} {m q : ℕ} (g : Taken o s at k P Q m q) → Before g.t at q k m P Q
 stands g = record { free = g.free; stored = g.stored; further = g.further }

@@ -4,8 +4,8 @@ use mathlib.Core.Path.{◌≡◌, refl, ap}
 use mathlib.Core.List.{List, [], ◌∷◌}
 use native.Mathlib.Omega.{arith}
 use lib.ListN.{drop}
-use Rattle.rules.specs.Nodes.{Nodes}
-use Rattle.rules.specs.declared.ReadNodes.TheVariants.{Read, NoReading}
+use Rattle.rules.specs.Pool.{Pool}
+use Rattle.rules.specs.declared.Nodes.TheVariants.{Read, NoReading}
 use Rattle.reading_grammar.specs.Grammar.{Token, full}
 use Rattle.reading_grammar.specs.Tokens.{tokens}
 use Rattle.reading_grammar.specs.Reading.{standard}
@@ -14,7 +14,7 @@ use Rattle.reading_standard.specs.Private.{LevelWrote}
 use Rattle.rules.specs.Reads.{Answered}
 use Rattle.reading_standard.proofs.Taken.{level_taken, level_refused}
 
-module _ {s : List ℕ} {P Q : Nodes} where
+module _ {s : List ℕ} {P Q : Pool} where
   pub whole_bad : LevelWrote full s 0 0 P Q Bad → Answered (standard s) s P Q NoReading
   unfolding standard
   whole_bad w = record { read = rw (level_refused w) refl }

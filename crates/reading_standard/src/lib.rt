@@ -1,14 +1,14 @@
 // The Standard reading of a plural rule, by recursive descent over its tokens; the nodes are appended to lent arrays, each operand
 // before its parent. A level is the binary operators of one rank, counted from the tightest; ?: stands above the loosest.
 ghost use Rattle.std.specs.Prelude.{◌≡◌, ◌<◌, ◌≤◌, ◌-◌, length};
-ghost use Rattle.rules.specs.Nodes.{nodes_of};
+ghost use Rattle.rules.specs.Pool.{pool};
 ghost use Rattle.reading_grammar.specs.Grammar.{full};
 ghost use Rattle.reading_standard.specs.Private.{Room, LevelWrote, MoreWrote, PrefixWrote};
 ghost use Rattle.rules.specs.Reads.{Answered};
 ghost use Rattle.reading_grammar.specs.Reading.{standard};
 
 use reading_tokens::{After, Next, past, rank_of, token_at};
-use rules::{ReadNodes, node, put};
+use rules::{Nodes, node, put};
 
 // The loosest rank; ?: stands after texts of this level.
 const LOOSEST: u8 = 6;
@@ -19,7 +19,7 @@ const FULL: u8 = 7;
 // The next free place and the position after what was read, or no reading.
 #[derive(Drop)]
 enum Part {
-    Got { free: usize, after: usize },
+    Got(usize, usize),
     Bad,
 }
 
@@ -35,7 +35,7 @@ fn below(k: usize) -> u16
 fn read_level(
     s: &[u8],
     codes: &mut [u8; 512],
-    fields: &mut [u16; 1024],
+    places: &mut [u16; 1024],
     values: &mut [u64; 512],
     l: u8,
     at: usize,
@@ -43,27 +43,27 @@ fn read_level(
 ) -> Part
     requires { (l ≤ full) × Room s.now at k }
     ensures { LevelWrote l s.now at k
-        (nodes_of codes.old fields.old values.old)
-        (nodes_of codes.new fields.new values.new) result }
+        (pool codes.old places.old values.old)
+        (pool codes.new places.new values.new) result }
 {
     // the levels in a loop, and not each in a call of its own: a bracket then takes two frames of the stack and not eight
-    let first = read_prefix(s, codes, fields, values, at, k);
-    let Part::Got { free: u, after: p } = first else {
+    let first = read_prefix(s, codes, places, values, at, k);
+    let Part::Got(u, p) = first else {
         return Part::Bad;
     };
     let mut m = u;
     let mut q = p;
     let mut j = 0;
     while j < l {
-        let next = read_more(s, codes, fields, values, j, q, m);
-        let Part::Got { free: v, after: e } = next else {
+        let next = read_more(s, codes, places, values, j, q, m);
+        let Part::Got(v, e) = next else {
             return Part::Bad;
         };
         m = v;
         q = e;
         j += 1;
     }
-    Part::Got { free: m, after: q }
+    Part::Got(m, q)
 }
 
 // A left operand is stored below place m: the operators of rank j + 1 after it, each with its right operand.
@@ -71,7 +71,7 @@ fn read_level(
 fn read_more(
     s: &[u8],
     codes: &mut [u8; 512],
-    fields: &mut [u16; 1024],
+    places: &mut [u16; 1024],
     values: &mut [u64; 512],
     j: u8,
     at: usize,
@@ -79,44 +79,44 @@ fn read_more(
 ) -> Part
     requires { (j < full) × (0 < m) × Room s.now at m }
     ensures { MoreWrote j s.now at m
-        (nodes_of codes.old fields.old values.old)
-        (nodes_of codes.new fields.new values.new) result }
+        (pool codes.old places.old values.old)
+        (pool codes.new places.new values.new) result }
 {
     let x = token_at(s, at);
     match x {
-        Next::Sign { code: c, after: e } => {
+        Next::Sign(c, e) => {
             if rank_of(c) != j + 1 {
-                return Part::Got { free: m, after: at };
+                return Part::Got(m, at);
             }
-            let right = read_level(s, codes, fields, values, j, e, m);
-            let Part::Got { free: w, after: q } = right else {
+            let right = read_level(s, codes, places, values, j, e, m);
+            let Part::Got(w, q) = right else {
                 return Part::Bad;
             };
-            put(codes, fields, values, w, c, below(m), 0, 0);
-            read_more(s, codes, fields, values, j, q, w + 1)
+            put(codes, places, values, w, c, below(m), 0, 0);
+            read_more(s, codes, places, values, j, q, w + 1)
         }
-        Next::Mark { byte: b, after: e } => {
+        Next::Mark(b, e) => {
             if b != b'?' {
-                return Part::Got { free: m, after: at };
+                return Part::Got(m, at);
             }
             if j != LOOSEST {
-                return Part::Got { free: m, after: at };
+                return Part::Got(m, at);
             }
-            let middle = read_level(s, codes, fields, values, FULL, e, m);
-            let Part::Got { free: v, after: i } = middle else {
+            let middle = read_level(s, codes, places, values, FULL, e, m);
+            let Part::Got(v, i) = middle else {
                 return Part::Bad;
             };
             let colon = past(s, i, b':');
             let After::At(p) = colon else {
                 return Part::Bad;
             };
-            let last = read_level(s, codes, fields, values, FULL, p, v);
-            let Part::Got { free: w, after: q } = last else {
+            let last = read_level(s, codes, places, values, FULL, p, v);
+            let Part::Got(w, q) = last else {
                 return Part::Bad;
             };
             put(
                 codes,
-                fields,
+                places,
                 values,
                 w,
                 node::TERNARY,
@@ -124,14 +124,11 @@ fn read_more(
                 below(v),
                 0,
             );
-            Part::Got {
-                free: w + 1,
-                after: q,
-            }
+            Part::Got(w + 1, q)
         }
-        Next::End => Part::Got { free: m, after: at },
-        Next::Number { value: v, after: e } => Part::Got { free: m, after: at },
-        Next::Huge => Part::Got { free: m, after: at },
+        Next::End => Part::Got(m, at),
+        Next::Number(v, e) => Part::Got(m, at),
+        Next::Huge => Part::Got(m, at),
     }
 }
 
@@ -139,58 +136,49 @@ fn read_more(
 fn read_prefix(
     s: &[u8],
     codes: &mut [u8; 512],
-    fields: &mut [u16; 1024],
+    places: &mut [u16; 1024],
     values: &mut [u64; 512],
     at: usize,
     k: usize,
 ) -> Part
     requires { Room s.now at k }
     ensures { PrefixWrote s.now at k
-        (nodes_of codes.old fields.old values.old)
-        (nodes_of codes.new fields.new values.new) result }
+        (pool codes.old places.old values.old)
+        (pool codes.new places.new values.new) result }
 {
     let x = token_at(s, at);
     match x {
-        Next::Mark { byte: b, after: e } => {
+        Next::Mark(b, e) => {
             if b == b'n' {
-                put(codes, fields, values, k, node::N, 0, 0, 0);
-                return Part::Got {
-                    free: k + 1,
-                    after: e,
-                };
+                put(codes, places, values, k, node::N, 0, 0, 0);
+                return Part::Got(k + 1, e);
             }
             if b == b'!' {
-                let negated = read_level(s, codes, fields, values, 0, e, k);
-                let Part::Got { free: m, after: q } = negated else {
+                let negated = read_level(s, codes, places, values, 0, e, k);
+                let Part::Got(m, q) = negated else {
                     return Part::Bad;
                 };
-                put(codes, fields, values, m, node::NOT, 0, 0, 0);
-                return Part::Got {
-                    free: m + 1,
-                    after: q,
-                };
+                put(codes, places, values, m, node::NOT, 0, 0, 0);
+                return Part::Got(m + 1, q);
             }
             if b != b'(' {
                 return Part::Bad;
             }
-            let inner = read_level(s, codes, fields, values, FULL, e, k);
-            let Part::Got { free: m, after: q } = inner else {
+            let inner = read_level(s, codes, places, values, FULL, e, k);
+            let Part::Got(m, q) = inner else {
                 return Part::Bad;
             };
             let close = past(s, q, b')');
             let After::At(p) = close else {
                 return Part::Bad;
             };
-            Part::Got { free: m, after: p }
+            Part::Got(m, p)
         }
-        Next::Number { value: v, after: e } => {
-            put(codes, fields, values, k, node::INTEGER, 0, 0, v);
-            Part::Got {
-                free: k + 1,
-                after: e,
-            }
+        Next::Number(v, e) => {
+            put(codes, places, values, k, node::INTEGER, 0, 0, v);
+            Part::Got(k + 1, e)
         }
-        Next::Sign { code: c, after: e } => Part::Bad,
+        Next::Sign(c, e) => Part::Bad,
         Next::End => Part::Bad,
         Next::Huge => Part::Bad,
     }
@@ -200,21 +188,21 @@ fn read_prefix(
 pub fn standard(
     s: &[u8],
     codes: &mut [u8; 512],
-    fields: &mut [u16; 1024],
+    places: &mut [u16; 1024],
     values: &mut [u64; 512],
-) -> ReadNodes
+) -> Nodes
     requires { length s.now ≤ 512 }
     ensures { Answered (standard s.now) s.now
-        (nodes_of codes.old fields.old values.old)
-        (nodes_of codes.new fields.new values.new) result }
+        (pool codes.old places.old values.old)
+        (pool codes.new places.new values.new) result }
 {
-    let whole = read_level(s, codes, fields, values, FULL, 0, 0);
-    let Part::Got { free: k, after: q } = whole else {
-        return ReadNodes::NoReading; // no tree
+    let whole = read_level(s, codes, places, values, FULL, 0, 0);
+    let Part::Got(k, q) = whole else {
+        return Nodes::NoReading; // no tree
     };
     let x = token_at(s, q);
     let Next::End = x else {
-        return ReadNodes::NoReading; // a token after it
+        return Nodes::NoReading; // a token after it
     };
-    ReadNodes::Read(k)
+    Nodes::Read(k)
 }

@@ -10,9 +10,9 @@ use native.Mathlib.Numerals.{add-one}
 use lib.ListN.{length, drop, get_or, drop_of_length-le}
 use lib.Dec.{eqb, leb, ltb}
 use borrow.Author.Tests.{eq-eqb, ne_eqb, eqb-true, leb-true, ltb-true, not-true}
-use Rattle.rules.specs.Tree.{Op, cmp, and, or, modulo, equal, not_equal, greater_or_equal, smaller_or_equal, greater, smaller, calc, divide, plus, minus, times}
+use Rattle.rules.specs.Tree.{Op, cmp, and, or, rem, eq, ne, ge, le, gt, lt, calc, div, plus, minus, times}
 use Rattle.rules.specs.Operator.{op_code}
-use Rattle.rules.specs.Nodes.{pair_op}
+use Rattle.rules.specs.Pool.{pair_op}
 use Rattle.rules.specs.Store.{node_code}
 use Rattle.reading_grammar.specs.Grammar.{sign, rank}
 use Rattle.reading_grammar.specs.Tokens.{find_two, twos, find_one, ones}
@@ -40,30 +40,30 @@ ranks = 4 ∷ 4 ∷ 3 ∷ 3 ∷ 3 ∷ 3 ∷ 5 ∷ 6 ∷ 1 ∷ 1 ∷ 2 ∷ 2 ∷ 
 
 pub ranked : (op : Op) → get_or ranks (op_code op) 0 ≡ rank op
 unfolding op_code
-ranked (cmp equal) = refl
-ranked (cmp not_equal) = refl
-ranked (cmp greater_or_equal) = refl
-ranked (cmp smaller_or_equal) = refl
-ranked (cmp greater) = refl
-ranked (cmp smaller) = refl
+ranked (cmp eq) = refl
+ranked (cmp ne) = refl
+ranked (cmp ge) = refl
+ranked (cmp le) = refl
+ranked (cmp gt) = refl
+ranked (cmp lt) = refl
 ranked and = refl
 ranked or = refl
-ranked modulo = refl
-ranked divide = refl
+ranked rem = refl
+ranked div = refl
 ranked (calc plus) = refl
 ranked (calc minus) = refl
 ranked (calc times) = refl
 
 -- the operators of the rows, whose nodes have those codes
 abbrev pair_ops : List Op
-pair_ops = cmp equal ∷ cmp not_equal ∷ cmp smaller_or_equal ∷ cmp greater_or_equal ∷ and ∷ or ∷ []
+pair_ops = cmp eq ∷ cmp ne ∷ cmp le ∷ cmp ge ∷ and ∷ or ∷ []
 
 abbrev single_ops : List Op
-single_ops = modulo ∷ divide ∷ calc times ∷ calc plus ∷ calc minus ∷ cmp smaller ∷ cmp greater ∷ []
+single_ops = rem ∷ div ∷ calc times ∷ calc plus ∷ calc minus ∷ cmp lt ∷ cmp gt ∷ []
 
-coded : (ops : List Op) (xs : List ℕ) → every (λ i x. eqb (node_code (get_or ops i modulo)) x) xs ≡ true → (i : ℕ) → i < length xs
-    → node_code (get_or ops i modulo) ≡ get_or xs i 0
-coded ops xs e i h = eqb-true _ _ (entry (λ i x. eqb (node_code (get_or ops i modulo)) x) xs e i h)
+coded : (ops : List Op) (xs : List ℕ) → every (λ i x. eqb (node_code (get_or ops i rem)) x) xs ≡ true → (i : ℕ) → i < length xs
+    → node_code (get_or ops i rem) ≡ get_or xs i 0
+coded ops xs e i h = eqb-true _ _ (entry (λ i x. eqb (node_code (get_or ops i rem)) x) xs e i h)
 
 -- the operators of two bytes
 abbrev rows : List ℕ → List ℕ → List Op → List (ℕ × ℕ × Op)
@@ -73,7 +73,7 @@ rows (x ∷ xs) [] zs = []
 rows [] ys zs = []
 
 row : (xs ys : List ℕ) (zs : List Op) (i : ℕ) → i < length xs → i < length ys → i < length zs
-    → drop i (rows xs ys zs) ≡ (get_or xs i 0, get_or ys i 0, get_or zs i modulo) ∷ drop (suc i) (rows xs ys zs)
+    → drop i (rows xs ys zs) ≡ (get_or xs i 0, get_or ys i 0, get_or zs i rem) ∷ drop (suc i) (rows xs ys zs)
 row [] ys zs i h j k = absurd (omega arith)
 row (x ∷ xs) [] zs i h j k = absurd (omega arith)
 row (x ∷ xs) (y ∷ ys) [] i h j k = absurd (omega arith)
@@ -81,7 +81,7 @@ row (x ∷ xs) (y ∷ ys) (z ∷ zs) zero h j k = refl
 row (x ∷ xs) (y ∷ ys) (z ∷ zs) (suc i) h j k = row xs ys zs i (omega arith) (omega arith) (omega arith)
 
 two_row : (i b c : ℕ) → i < length firsts → find_two (drop i twos) b c
-    ≡ elim (eqb b (get_or firsts i 0) && eqb c (get_or seconds i 0)) [ true ↦ some (get_or pair_ops i modulo) | false ↦ find_two (drop (suc i) twos) b c ]
+    ≡ elim (eqb b (get_or firsts i 0) && eqb c (get_or seconds i 0)) [ true ↦ some (get_or pair_ops i rem) | false ↦ find_two (drop (suc i) twos) b c ]
 two_row i b c h = ap (λ (r : List (ℕ × ℕ × Op)). find_two r b c) (row firsts seconds pair_ops i h h h)
 
 module _ (i b c : ℕ) where
@@ -124,14 +124,14 @@ rows₁ (x ∷ xs) (z ∷ zs) = (x, z) ∷ rows₁ xs zs
 rows₁ (x ∷ xs) [] = []
 rows₁ [] zs = []
 
-row₁ : (xs : List ℕ) (zs : List Op) (i : ℕ) → i < length xs → i < length zs → drop i (rows₁ xs zs) ≡ (get_or xs i 0, get_or zs i modulo) ∷ drop (suc i) (rows₁ xs zs)
+row₁ : (xs : List ℕ) (zs : List Op) (i : ℕ) → i < length xs → i < length zs → drop i (rows₁ xs zs) ≡ (get_or xs i 0, get_or zs i rem) ∷ drop (suc i) (rows₁ xs zs)
 row₁ [] zs i h k = absurd (omega arith)
 row₁ (x ∷ xs) [] i h k = absurd (omega arith)
 row₁ (x ∷ xs) (z ∷ zs) zero h k = refl
 row₁ (x ∷ xs) (z ∷ zs) (suc i) h k = row₁ xs zs i (omega arith) (omega arith)
 
 one_row : (i b : ℕ) → i < length singles
-    → find_one (drop i ones) b ≡ elim (eqb b (get_or singles i 0)) [ true ↦ sign (get_or single_ops i modulo) | false ↦ find_one (drop (suc i) ones) b ]
+    → find_one (drop i ones) b ≡ elim (eqb b (get_or singles i 0)) [ true ↦ sign (get_or single_ops i rem) | false ↦ find_one (drop (suc i) ones) b ]
 one_row i b h = ap (λ (r : List (ℕ × Op)). find_one r b) (row₁ singles single_ops i h h)
 
 module _ (i b : ℕ) where

@@ -11,10 +11,10 @@ use text_digits::Number;
 #[derive(Drop)]
 pub enum Next {
     End,
-    Sign { code: u8, after: usize },
-    Number { value: u64, after: usize },
+    Sign(u8, usize),
+    Number(u64, usize),
     Huge,
-    Mark { byte: u8, after: usize },
+    Mark(u8, usize),
 }
 
 // The position after a byte that had to come next.
@@ -30,25 +30,25 @@ const FIRST: [u8; 6] = [b'=', b'!', b'<', b'>', b'&', b'|'];
 const SECOND: [u8; 6] = [b'=', b'=', b'=', b'=', b'&', b'|'];
 
 const PAIR_CODE: [u8; 6] = [
-    node::PAIR_OP + node::EQUAL,
-    node::PAIR_OP + node::NOT_EQUAL,
-    node::PAIR_OP + node::SMALLER_OR_EQUAL,
-    node::PAIR_OP + node::GREATER_OR_EQUAL,
-    node::PAIR_OP + node::AND,
-    node::PAIR_OP + node::OR,
+    node::OP + node::EQUAL,
+    node::OP + node::NOT_EQUAL,
+    node::OP + node::SMALLER_OR_EQUAL,
+    node::OP + node::GREATER_OR_EQUAL,
+    node::OP + node::AND,
+    node::OP + node::OR,
 ];
 
 // The operators of one byte: byte, code.
 const SINGLE: [u8; 7] = [b'%', b'/', b'*', b'+', b'-', b'<', b'>'];
 
 const SINGLE_CODE: [u8; 7] = [
-    node::PAIR_OP + node::MODULO,
-    node::PAIR_OP + node::DIVIDE,
-    node::PAIR_OP + node::TIMES,
-    node::PAIR_OP + node::PLUS,
-    node::PAIR_OP + node::MINUS,
-    node::PAIR_OP + node::SMALLER,
-    node::PAIR_OP + node::GREATER,
+    node::OP + node::MODULO,
+    node::OP + node::DIVIDE,
+    node::OP + node::TIMES,
+    node::OP + node::PLUS,
+    node::OP + node::MINUS,
+    node::OP + node::SMALLER,
+    node::OP + node::GREATER,
 ];
 
 // The rank of each operator, 1 the tightest.
@@ -59,7 +59,7 @@ pub fn rank_of(c: u8) -> u8
     requires { Operator c }
     ensures { Ranks c result }
 {
-    RANK[(c - node::PAIR_OP) as usize]
+    RANK[(c - node::OP) as usize]
 }
 
 // The code of the operator that two bytes are, among the rows from i on; 0 for none.
@@ -113,17 +113,11 @@ fn run(s: &[u8], at: usize, v: u64) -> Next
     ensures { result ≡ ran v s.now at }
 {
     if at >= s.len() {
-        return Next::Number {
-            value: v,
-            after: at,
-        };
+        return Next::Number(v, at);
     }
     let b = s[at];
     if !text_digits::is_digit(b) {
-        return Next::Number {
-            value: v,
-            after: at,
-        };
+        return Next::Number(v, at);
     }
     let longer = text_digits::digit_on(v, b);
     let Number::Whole(w) = longer else {
@@ -153,22 +147,13 @@ pub fn token_at(s: &[u8], at: usize) -> Next
     }
     let two = pair(b, peek(s, i + 1), 0);
     if two != 0 {
-        return Next::Sign {
-            code: two,
-            after: i + 2,
-        };
+        return Next::Sign(two, i + 2);
     }
     let one = single(b, 0);
     if one != 0 {
-        return Next::Sign {
-            code: one,
-            after: i + 1,
-        };
+        return Next::Sign(one, i + 1);
     }
-    Next::Mark {
-        byte: b,
-        after: i + 1,
-    }
+    Next::Mark(b, i + 1)
 }
 
 // Past a byte that has to come next.
@@ -176,7 +161,7 @@ pub fn past(s: &[u8], at: usize, c: u8) -> After
     ensures { result ≡ passed c (next s.now at) }
 {
     let x = token_at(s, at);
-    let Next::Mark { byte: b, after: e } = x else {
+    let Next::Mark(b, e) = x else {
         return After::Other;
     };
     if b == c { After::At(e) } else { After::Other }

@@ -10,8 +10,6 @@ use Rattle.refusal.specs.declared.Where.TheVariants.{File, Forced, Entry}
 use Rattle.refusal.specs.declared.Refusal.{Refusal}
 use Rattle.refusal.specs.declared.Outcome.{Outcome}
 use Rattle.refusal.specs.declared.Outcome.TheVariants.{Loaded, Refused}
-use Rattle.refusal.specs.declared.Report.{Report}
-use Rattle.refusal.specs.Numbers.{outcome_number}
 
 -- what each place names
 pub record Names : Type 0 where
@@ -59,10 +57,3 @@ named (some i) = true
 abbrev pub index_or0 : Option ℕ → ℕ
 index_or0 none = 0
 index_or0 (some i) = i
-
--- what a host is told: the number, with what its place names
-abbrev pub told_at : ℕ → Where → Report
-told_at n w = record { number = n; side = side_number (side_of w); entered = named (index_of w); entry = index_or0 (index_of w) }
-
-abbrev pub told_of : Outcome → Report
-told_of o = told_at (outcome_number o) (outcome_place o)

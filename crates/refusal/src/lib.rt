@@ -2,7 +2,7 @@
 // from Eof to UnknownEncoding are those of the Rust's `Error`. 9 is free: docs/SPEC.md says why.
 ghost use Rattle.std.specs.Prelude.{◌≡◌};
 ghost use Rattle.refusal.specs.Numbers.{number_of, outcome_number};
-ghost use Rattle.refusal.specs.Places.{at, side_number, told_at, told_of};
+ghost use Rattle.refusal.specs.Places.{at, index_of, side_of, outcome_place, side_number, named, index_or0};
 ghost use Rattle.std.proofs.Math.Option.{some};
 
 #[derive(Drop)]
@@ -36,7 +36,7 @@ pub enum Side {
 pub enum Where {
     File,
     Forced,
-    Entry { index: usize, side: Side },
+    Entry(usize, Side),
 }
 
 // Why a load was refused, and where.
@@ -102,6 +102,16 @@ pub fn outcome_number(outcome: Outcome) -> u32
     }
 }
 
+// Where; a load that is not refused names nothing.
+pub fn outcome_place(outcome: Outcome) -> Where
+    ensures { result ≡ outcome_place outcome }
+{
+    match outcome {
+        Outcome::Loaded => Where::File,
+        Outcome::Refused(refusal) => place_of(refusal),
+    }
+}
+
 fn number_of_side(side: Side) -> u32
     ensures { result ≡ side_number (some side) }
 {
@@ -113,47 +123,34 @@ fn number_of_side(side: Side) -> u32
     }
 }
 
-// What a host is told of a load: the number, 0 for none; the side as a number, 0 where none is named; whether an entry is named, since 0 is an
-// index, and its index.
-#[derive(Drop)]
-pub struct Report {
-    pub number: u32,
-    pub side: u32,
-    pub entered: bool,
-    pub entry: usize,
-}
-
-fn told_at(number: u32, place: Where) -> Report
-    ensures { result ≡ told_at number place }
+// The side as a number, 0 where none is named.
+pub fn side_number(place: Where) -> u32
+    ensures { result ≡ side_number (side_of place) }
 {
     match place {
-        Where::File => Report {
-            number,
-            side: 0,
-            entered: false,
-            entry: 0,
-        },
-        Where::Forced => Report {
-            number,
-            side: number_of_side(Side::Rule),
-            entered: false,
-            entry: 0,
-        },
-        Where::Entry { index, side } => Report {
-            number,
-            side: number_of_side(side),
-            entered: true,
-            entry: index,
-        },
+        Where::File => 0,
+        Where::Forced => number_of_side(Side::Rule),
+        Where::Entry(i, side) => number_of_side(side),
     }
 }
 
-// A load that is not refused names nothing.
-pub fn told(outcome: Outcome) -> Report
-    ensures { result ≡ told_of outcome }
+// Whether an entry is named, and which: entry 0 is one.
+pub fn names_entry(place: Where) -> bool
+    ensures { result ≡ named (index_of place) }
 {
-    match outcome {
-        Outcome::Loaded => told_at(0, Where::File),
-        Outcome::Refused(refusal) => told_at(number_of(error_of(refusal)), place_of(refusal)),
+    match place {
+        Where::File => false,
+        Where::Forced => false,
+        Where::Entry(i, side) => true,
+    }
+}
+
+pub fn entry_index(place: Where) -> usize
+    ensures { result ≡ index_or0 (index_of place) }
+{
+    match place {
+        Where::File => 0,
+        Where::Forced => 0,
+        Where::Entry(i, side) => i,
     }
 }

@@ -1,4 +1,4 @@
--- The answers of nodes by the tree test and the tree at its root.
+-- The answers of a pool by the tree test and the tree at its root.
 use mathlib.Core.Path.{◌≡◌, refl, sym, ap, ◌∙◌}
 use mathlib.Core.Bool.{Bool, true, false}
 use Prim.Native.Nat.{ℕ}
@@ -13,10 +13,10 @@ use Rattle.rules.specs.declared.Fit.{Fit}
 use Rattle.rules.specs.declared.Fit.TheVariants as fit
 use Rattle.rules.specs.Value.{eval_tree}
 use Rattle.rules.specs.Range.{rate_tree, fits_range}
-use Rattle.rules.specs.Nodes.{Nodes, tree_of, is_tree}
+use Rattle.rules.specs.Pool.{Pool, tree_of, is_tree}
 use Rattle.rules.specs.Answer.{form_of, range_of, fitting, resolved_of, rated_of, fit_of}
 
-module _ (P : Nodes) (count root : ℕ) where
+module _ (P : Pool) (count root : ℕ) where
   pub resolved_tree : (n : ℕ) → is_tree P count root ≡ true → resolved_of P count root n ≡ form_of (eval_tree (tree_of P root) n)
   unfolding resolved_of
   resolved_tree n e = rw (resolved_of, e)
@@ -50,7 +50,7 @@ fit_from (rated.Range l h) k = fitting (ltb h k)
 fit_from rated.Unrated k = fit.No
 fit_from rated.NoTree k = fit.NoTree
 
-module _ (P : Nodes) (count root k : ℕ) where
+module _ (P : Pool) (count root k : ℕ) where
   pub fit_from_lem : fit_of P count root k ≡ fit_from (rated_of P count root) k
   unfolding fit_of rated_of fits_range
   fit_from_lem = go (is_tree P count root) (rate_tree (tree_of P root))

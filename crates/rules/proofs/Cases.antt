@@ -1,4 +1,4 @@
--- Trees, computed from the definitions, as one list: the range, and the value at a count. The rules of SPEC 17.1 are in the table of crate
+-- Trees, computed from the definitions, as one list: the range, and the value at a count. Document 01's starred rules are in the table of crate
 -- `starred`. Assumes nothing.
 use Prim.Native.Nat.{ℕ}
 use mathlib.Core.Path.{◌≡◌, refl}
@@ -7,13 +7,13 @@ use Rattle.rules.specs.declared.Value.{Value}
 use Rattle.rules.specs.declared.Value.TheVariants.{Is, ZeroModulus}
 use Rattle.rules.specs.declared.Rating.{Rating}
 use Rattle.rules.specs.declared.Rating.TheVariants.{Range, Unrated}
-use Rattle.rules.specs.Tree.{Tree, var, int, negate, bin, cond, cmp, and, or, modulo, smaller, default_tree}
+use Rattle.rules.specs.Tree.{Tree, var, int, nay, bin, cond, cmp, and, or, rem, lt, default_tree}
 use Rattle.rules.specs.Value.{binary, negated, chosen, eval_tree}
 use Rattle.rules.specs.Range.{op_range, bin_range, not_range, cond_range, rate_tree}
 
 -- 7%n
 abbrev by_count : Tree
-by_count = bin modulo (int 7) var
+by_count = bin rem (int 7) var
 
 abbrev Row : Type 0
 Row = Tree × Rating × ℕ × Value
@@ -22,7 +22,7 @@ abbrev rows : List Row
 rows =
     (by_count, Unrated, 0, ZeroModulus)
     ∷ (by_count, Unrated, 3, Is 1)
-    -- a remainder by zero behind && or || has no effect on the value, and unrates the rule; so does an unrated condition, and an arm that is not taken
+    -- a zero remainder behind && or || has no effect on the value, and unrates the rule; so does an unrated condition, and an arm that is not taken
     ∷ (bin and (int 0) by_count, Unrated, 0, Is 0)
     ∷ (bin or (int 1) by_count, Unrated, 0, Is 1)
     ∷ (cond by_count (int 1) (int 2), Unrated, 0, ZeroModulus)
@@ -30,8 +30,8 @@ rows =
     -- the default rule is 0 for 1, else 1; ! and ?:
     ∷ (default_tree, Range 0 1, 1, Is 0)
     ∷ (default_tree, Range 0 1, 0, Is 1)
-    ∷ (negate default_tree, Range 0 1, 1, Is 1)
-    ∷ (cond (bin (cmp smaller) var (int 2)) (int 8) (int 9), Range 8 9, 2, Is 9)
+    ∷ (nay default_tree, Range 0 1, 1, Is 1)
+    ∷ (cond (bin (cmp lt) var (int 2)) (int 8) (int 9), Range 8 9, 2, Is 9)
     ∷ []
 
 abbrev computed : Row → Row

@@ -7,11 +7,11 @@ use borrow.Author.Tests.{ltb-true}
 use Rattle.rules.specs.declared.Rated.{Rated}
 use Rattle.rules.specs.declared.Rated.TheVariants as rated
 use Rattle.rules.specs.declared.Fit.TheVariants as fit
-use Rattle.rules.specs.Nodes.{Nodes}
+use Rattle.rules.specs.Pool.{Pool}
 use Rattle.rules.specs.Answer.{fitting, rated_of, fit_of}
 use Rattle.rules.proofs.Answers.{fit_from, fit_from_lem}
 
-pub record Ranged (P : Nodes) (count root k : ℕ) : Type 0 where
+pub record Ranged (P : Pool) (count root k : ℕ) : Type 0 where
   pub lowest : ℕ
   pub highest : ℕ
   pub is : rated_of P count root ≡ rated.Range lowest highest
@@ -22,7 +22,7 @@ fit_of_lem : (b : Bool) → fitting b ≡ fit.Yes → b ≡ true
 fit_of_lem true e = refl
 fit_of_lem false e = let z : ◌≡◌ {A = ℕ} 0 1 = cc in absurd (omega arith)
 
-module _ (P : Nodes) (count root k : ℕ) where
+module _ (P : Pool) (count root k : ℕ) where
   by_range : (q : Rated) → rated_of P count root ≡ q → fit_from q k ≡ fit.Yes → Ranged P count root k
   by_range (rated.Range l h) e f = record { lowest = l; highest = h; is = e; below = ltb-true h k (fit_of_lem _ f) }
   by_range rated.Unrated e f = let z : ◌≡◌ {A = ℕ} 0 1 = cc in absurd (omega arith)

@@ -1,4 +1,4 @@
--- What the answers of nodes say of one another: where the rating gives a range, every count has a form within it, and where a rule
+-- What the answers of a pool say of one another: where the rating gives a range, every count has a form within it, and where a rule
 -- fits k, every count has a form below k. This is `InRange` said of the public functions' answers.
 use Prim.Native.Nat.{ℕ, ◌^◌, ◌<◌, ◌≤◌}
 use mathlib.Core.Path.{◌≡◌, sym, ap, ◌∙◌}
@@ -13,7 +13,7 @@ use Rattle.rules.specs.declared.Rated.TheVariants as rated
 use Rattle.rules.specs.declared.Fit.TheVariants.{Yes}
 use Rattle.rules.specs.Value.{truth, binary, eval_tree}
 use Rattle.rules.specs.Range.{op_range, bin_range, rate_tree}
-use Rattle.rules.specs.Nodes.{Nodes, tree_of, is_tree}
+use Rattle.rules.specs.Pool.{Pool, tree_of, is_tree}
 use Rattle.rules.specs.Tree.{default_tree}
 use Rattle.rules.specs.Store.{size}
 use Rattle.rules.specs.Pack.{pack, nodes, packed_size, packed}
@@ -40,7 +40,7 @@ range_of_lem : (r : Rating) (lo hi : ℕ) → range_of r ≡ rated.Range lo hi �
 range_of_lem (Range l h) lo hi e = cc
 range_of_lem Unrated lo hi e = let z : ◌≡◌ {A = ℕ} 0 1 = cc in absurd (omega arith)
 
-module _ (P : Nodes) (count root : ℕ) where
+module _ (P : Pool) (count root : ℕ) where
   is_tree_rated : (lo hi : ℕ) → rated_of P count root ≡ rated.Range lo hi → is_tree P count root ≡ true
   is_tree_rated lo hi e =
       split (is_tree P count root) (λ f. f) (λ f. let z : ◌≡◌ {A = ℕ} 0 1 = cc (rated_none P count root f) in absurd (omega arith))
@@ -60,7 +60,7 @@ module _ (P : Nodes) (count root : ℕ) where
       let w : FormFromTo f.lowest f.highest (resolved_of P count root n) = rated_forms f.lowest f.highest f.is n b in
       record { form = w.form; is = w.is; low = omega (arith, w.high, f.below) }
 
--- the default rule's nodes: its range is 0 to 1, and its form 0 for 1, else 1
+-- the default rule's pool: its range is 0 to 1, and its form 0 for 1, else 1
 pub default_rates : rated_of (packed default_tree) 1 0 ≡ rated.Range 0 1
 unfolding size packed_size pack nodes rate_tree bin_range op_range
 default_rates = packed_rates default_tree (omega arith)

@@ -1,4 +1,4 @@
--- A rated rule yields a value within its range at every count, and never a remainder or quotient by zero; so a rule that fits k yields a form
+-- A rated rule yields a value within its range at every count, and never a remainder by zero; so a rule that fits k yields a form
 -- below k. By induction on the tree, with one lemma for each kind of node.
 use Prim.Native.Nat.{ℕ, ◌+◌, ◌-◌, ◌*◌, ◌/◌, ◌%◌, ◌^◌, ◌<◌, ◌≤◌, min, max}
 use mathlib.Core.Path.{◌≡◌, refl}
@@ -13,7 +13,7 @@ use Rattle.rules.specs.declared.Value.{Value}
 use Rattle.rules.specs.declared.Value.TheVariants.{Is, ZeroModulus}
 use Rattle.rules.specs.declared.Rating.{Rating}
 use Rattle.rules.specs.declared.Rating.TheVariants.{Range, Unrated}
-use Rattle.rules.specs.Tree.{Tree, var, int, negate, bin, cond, Op, cmp, calc, and, or, modulo, divide, not_equal, plus, minus, times}
+use Rattle.rules.specs.Tree.{Tree, var, int, nay, bin, cond, Op, cmp, calc, and, or, rem, div, ne, plus, minus, times}
 use Rattle.rules.specs.Value.{truth, truth_v, pick_v, compared, binary, negated, chosen, eval_tree}
 use Rattle.rules.specs.Range.{pick_r, full_range, kept, op_range, bin_range, cond_range, not_range, rate_tree, fits_range}
 use Rattle.rules.proofs.Operators.{never}
@@ -89,10 +89,10 @@ op_in (cmp c) k h l m (Is x) (Is y) p q = truth_in (compared c x y)
 op_in (cmp c) k h l m (Is x) ZeroModulus p q = q
 op_in and k h l m (Is x) w p q = pick_in (eqb x 0) (Range 0 1) (Is 0) (truth_v w) (omega arith) (truth_v_in l m w q)
 op_in or k h l m (Is x) w p q = pick_in (eqb x 0) (Range 0 1) (truth_v w) (Is 1) (truth_v_in l m w q) (omega arith)
-op_in modulo k h l m (Is x) (Is y) p q = over l y 0 (min h (m - 1)) (x % y) q.0 (λ e. omega (arith, p, q, mod-lt x {m = y} (omega (arith, q)), mod-le x y))
-op_in modulo k h l m (Is x) ZeroModulus p q = absurd q
-op_in divide k h l m (Is x) (Is y) p q = over l y (k / m) (h / l) (x / y) q.0 (λ e. over_in k h l m x y e p.0 p.1 q.0 q.1)
-op_in divide k h l m (Is x) ZeroModulus p q = absurd q
+op_in rem k h l m (Is x) (Is y) p q = over l y 0 (min h (m - 1)) (x % y) q.0 (λ e. omega (arith, p, q, mod-lt x {m = y} (omega (arith, q)), mod-le x y))
+op_in rem k h l m (Is x) ZeroModulus p q = absurd q
+op_in div k h l m (Is x) (Is y) p q = over l y (k / m) (h / l) (x / y) q.0 (λ e. over_in k h l m x y e p.0 p.1 q.0 q.1)
+op_in div k h l m (Is x) ZeroModulus p q = absurd q
 op_in (calc plus) k h l m (Is x) (Is y) p q = kept_in (k + l) (h + m) (x + y) (omega (arith, p, q)) (omega (arith, p, q))
 op_in (calc minus) k h l m (Is x) (Is y) p q = minus_in k h l m x y p.0 p.1 q.0 q.1
 op_in (calc times) k h l m (Is x) (Is y) p q = kept_in (k * l) (h * m) (x * y) (mul-le-mul p.0 q.0) (mul-le-mul p.1 q.1)
@@ -119,11 +119,11 @@ within : (t : Tree) (n : ℕ) → n < 2 ^ 64 → Within (rate_tree t) (eval_tree
 unfolding rate_tree eval_tree
 within var n h = omega arith
 within (int x) n h = omega arith
-within (negate t) n h = nay_in _ _ (within t n h)
+within (nay t) n h = nay_in _ _ (within t n h)
 within (bin op s t) n h = bin_in op _ _ _ _ (within s n h) (within t n h)
 within (cond s t u) n h = cond_in _ _ _ _ _ _ (within s n h) (within t n h) (within u n h)
 
--- a value from lo to hi, and so no remainder or quotient by zero
+-- a value from lo to hi, and so no zero remainder
 pub record FromTo (lo hi : ℕ) (v : Value) : Type 0 where
   pub form : ℕ
   pub is : v ≡ Is form
@@ -165,6 +165,6 @@ fits_none (Range l h) = le-ltb h 0 (omega arith)
 fits_none Unrated = refl
 
 -- the default rule's range is 0 to 1
-pub default_range : rate_tree (bin (cmp not_equal) var (int 1)) ≡ Range 0 1
+pub default_range : rate_tree (bin (cmp ne) var (int 1)) ≡ Range 0 1
 unfolding rate_tree bin_range op_range
 default_range = refl

@@ -6,7 +6,7 @@ use mathlib.Core.Option.{none, some}
 use Prim.Native.Nat.{ℕ, zero, suc, ◌+◌, ◌<◌}
 use native.Mathlib.Omega.{arith}
 use lib.ListN.{length}
-use Rattle.rules.specs.Tree.{Op, cmp, calc, and, or, modulo, divide, equal, not_equal, greater_or_equal, smaller_or_equal, greater, smaller, plus, minus, times}
+use Rattle.rules.specs.Tree.{Op, cmp, calc, and, or, rem, div, eq, ne, ge, le, gt, lt, plus, minus, times}
 use Rattle.rules.specs.Operator.{operators, op_at, op_of, Named, op_code}
 
 pub never : {A : Type 0} → false ≡ true → A
@@ -33,16 +33,16 @@ named i h = let r = row operators i h in record { op = r.0; is = r.1 }
 
 pub op_code_lem : (op : Op) → op_of (op_code op) ≡ some op
 unfolding op_code op_of op_at
-op_code_lem (cmp equal) = refl
-op_code_lem (cmp not_equal) = refl
-op_code_lem (cmp greater_or_equal) = refl
-op_code_lem (cmp smaller_or_equal) = refl
-op_code_lem (cmp greater) = refl
-op_code_lem (cmp smaller) = refl
+op_code_lem (cmp eq) = refl
+op_code_lem (cmp ne) = refl
+op_code_lem (cmp ge) = refl
+op_code_lem (cmp le) = refl
+op_code_lem (cmp gt) = refl
+op_code_lem (cmp lt) = refl
 op_code_lem and = refl
 op_code_lem or = refl
-op_code_lem modulo = refl
-op_code_lem divide = refl
+op_code_lem rem = refl
+op_code_lem div = refl
 op_code_lem (calc plus) = refl
 op_code_lem (calc minus) = refl
 op_code_lem (calc times) = refl

@@ -5,7 +5,7 @@ use mathlib.Core.Option.{some}
 use Prim.Native.Nat.{ℕ, ◌+◌, ◌-◌, ◌<◌, ◌≤◌}
 use native.Mathlib.Omega.{arith}
 use lib.Dec.{ltb}
-use Rattle.rules.specs.Tree.{Tree, var, int, negate, bin, cond, Op, cmp, and, or, modulo, divide, calc}
+use Rattle.rules.specs.Tree.{Tree, var, int, nay, bin, cond, Op, cmp, and, or, rem, div, calc}
 use Rattle.rules.specs.Operator.{op_of, op_code}
 use Rattle.rules.specs.declared.Number.{Number}
 use Rattle.rules.specs.declared.Number.TheVariants as number
@@ -13,8 +13,8 @@ use Rattle.rules.specs.declared.Small.{Small}
 use Rattle.rules.specs.declared.Small.TheVariants as small
 use Rattle.rules.specs.declared.Left.{Left}
 use Rattle.rules.specs.declared.Left.TheVariants as left
-use Rattle.rules.specs.Nodes.{n_op, rest_op, not_node, value_op, pair_op, ternary_node}
-use Rattle.rules.specs.Nodes as nodes_of
+use Rattle.rules.specs.Pool.{n_op, rest_op, nay_node, value_op, pair_op, ternary_node}
+use Rattle.rules.specs.Pool as pool
 use Rattle.rules.specs.Store.{size}
 use Rattle.rules.specs.Pack.{Packed, leaf, one, two, three, unpack, number_of, small_by, small_of, is_count, is_rem, rest_by, left_of, pack_bin, pack_cond, pack, nodes, packed_size}
 use Rattle.rules.proofs.Operators.{either, op_code_lem, code_in}
@@ -22,8 +22,8 @@ use Rattle.rules.proofs.Trees.{leaf_op, leaf_rest, one_op, two_op}
 
 -- each code has as many operands as there are
 abbrev pub Fits : Packed → Type 0
-Fits (leaf c m v) = c < not_node
-Fits (one c m v x) = (not_node ≤ c) × (c < pair_op) × Fits x
+Fits (leaf c m v) = c < nay_node
+Fits (one c m v x) = (nay_node ≤ c) × (c < pair_op) × Fits x
 Fits (two c v x y) = (pair_op ≤ c) × (c < ternary_node) × Fits x × Fits y
 Fits (three x y z) = Fits x × Fits y × Fits z
 
@@ -31,16 +31,16 @@ Fits (three x y z) = Fits x × Fits y × Fits z
 op_of_lem : (op : Op) (c : ℕ) → c ≡ op_code op → op_of c ≡ some op
 op_of_lem op c e = rw e (op_code_lem op)
 
-is_op : (op : Op) (m v : ℕ) → nodes_of.leaf (n_op + op_code op) m v ≡ bin op var (int v)
+is_op : (op : Op) (m v : ℕ) → pool.leaf (n_op + op_code op) m v ≡ bin op var (int v)
 is_op op m v = let h = code_in op in leaf_op _ m v (op_of_lem op (n_op + op_code op - n_op) (omega arith)) (omega arith) (omega arith)
 
-is_rest : (op : Op) (m v : ℕ) → nodes_of.leaf (rest_op + op_code op) m v ≡ bin op (bin modulo var (int m)) (int v)
+is_rest : (op : Op) (m v : ℕ) → pool.leaf (rest_op + op_code op) m v ≡ bin op (bin rem var (int m)) (int v)
 is_rest op m v = let h = code_in op in leaf_rest _ m v (op_of_lem op (rest_op + op_code op - rest_op) (omega arith)) (omega arith)
 
-is_one : (op : Op) (m v : ℕ) (x : Tree) → nodes_of.one (value_op + op_code op) m v x ≡ bin op x (int v)
+is_one : (op : Op) (m v : ℕ) (x : Tree) → pool.one (value_op + op_code op) m v x ≡ bin op x (int v)
 is_one op m v x = let h = code_in op in one_op _ m v x (op_of_lem op (value_op + op_code op - value_op) (omega arith)) (omega arith)
 
-pub is_two : (op : Op) (v : ℕ) (x y : Tree) → nodes_of.two (pair_op + op_code op) v x y ≡ bin op x y
+pub is_two : (op : Op) (v : ℕ) (x y : Tree) → pool.two (pair_op + op_code op) v x y ≡ bin op x y
 is_two op v x y = let h = code_in op in two_op _ v x y (op_of_lem op (pair_op + op_code op - pair_op) (omega arith)) (omega arith)
 
 -- what was found in an operand is the operand
@@ -52,7 +52,7 @@ number_is : (t : Tree) → NumberIs t (number_of t)
 unfolding number_of
 number_is var = tt
 number_is (int v) = refl
-number_is (negate t) = tt
+number_is (nay t) = tt
 number_is (bin op s t) = tt
 number_is (cond s t u) = tt
 
@@ -69,31 +69,31 @@ small_is t = small_by_lem t (number_of t) (number_is t)
 
 abbrev LeftIs : Tree → Left → Type 0
 LeftIs t left.Count = t ≡ var
-LeftIs t (left.Rest m) = t ≡ bin modulo var (int m)
+LeftIs t (left.Rest m) = t ≡ bin rem var (int m)
 LeftIs t left.Other = Unit {0}
 
-rest_by_lem : (t : Tree) (n : Small) → SmallIs t n → LeftIs (bin modulo var t) (rest_by n)
-rest_by_lem t (small.Is m) e = ap (bin modulo var) e
+rest_by_lem : (t : Tree) (n : Small) → SmallIs t n → LeftIs (bin rem var t) (rest_by n)
+rest_by_lem t (small.Is m) e = ap (bin rem var) e
 rest_by_lem t small.Other e = tt
 
 rest_is : (op : Op) (s t : Tree) → LeftIs (bin op s t) (elim (is_rem op && is_count s) [ true ↦ rest_by (small_of t) | false ↦ left.Other ])
 unfolding is_rem is_count
-rest_is modulo var t = rest_by_lem t (small_of t) (small_is t)
-rest_is modulo (int v) t = tt
-rest_is modulo (negate s) t = tt
-rest_is modulo (bin op s u) t = tt
-rest_is modulo (cond s u w) t = tt
+rest_is rem var t = rest_by_lem t (small_of t) (small_is t)
+rest_is rem (int v) t = tt
+rest_is rem (nay s) t = tt
+rest_is rem (bin op s u) t = tt
+rest_is rem (cond s u w) t = tt
 rest_is (cmp k) s t = tt
 rest_is and s t = tt
 rest_is or s t = tt
-rest_is divide s t = tt
+rest_is div s t = tt
 rest_is (calc c) s t = tt
 
 left_is : (t : Tree) → LeftIs t (left_of t)
 unfolding left_of
 left_is var = refl
 left_is (int v) = tt
-left_is (negate t) = tt
+left_is (nay t) = tt
 left_is (bin op s t) = rest_is op s t
 left_is (cond s t u) = tt
 
@@ -141,7 +141,7 @@ pub right : (t : Tree) → Right t (pack t)
 unfolding pack unpack nodes size
 right var = record { same = refl; fits = omega arith; few = omega arith }
 right (int v) = record { same = refl; fits = omega arith; few = omega arith }
-right (negate t) =
+right (nay t) =
     let f = right t in record { same = rw f.same; fits = (omega arith, omega arith, f.fits); few = omega (arith, f.few) }
 right (bin op s t) = bin_right op s t (left_of s) (number_of t) (pack s) (pack t) (left_is s) (number_is t) (right s) (right t)
 right (cond s t u) =

@@ -1,5 +1,5 @@
 -- A tree that was stored, packed or as a reader puts it, is the tree at its last place, and passes the tree test: a node more changes no place
--- before it, nodes that agree below a place hold the same trees there, and each node's operands are the last places of the trees before it, which
+-- before it, pools that agree below a place hold the same trees there, and each node's operands are the last places of the trees before it, which
 -- no node before it uses.
 use Prim.Native.Nat.{ℕ, zero, suc, ◌+◌, ◌-◌, ◌*◌, ◌<◌, ◌≤◌}
 use mathlib.Core.Path.{◌≡◌, refl, sym, ap, ◌∙◌, ap₂}
@@ -13,8 +13,8 @@ use lib.Seq.{get_or-set_same, get_or-set_other}
 use borrow.Author.Tests.{lt-ltb, le-ltb, le-leb}
 use Rattle.rules.specs.Tree.{Tree, default_tree, cond}
 use Rattle.rules.specs.Operator.{op_code}
-use Rattle.rules.specs.Nodes.{Nodes, nodes_of, code, field, value, build, below, tree_of, n_op, field_places, operands_to, operands, all_below, member, distinct, operands_below, shaped, is_tree, not_node, pair_op, ternary_node}
-use Rattle.rules.specs.Nodes as at
+use Rattle.rules.specs.Pool.{Pool, pool, code, field, value, build, below, tree_of, n_op, fields, operands_to, operands, all_below, member, distinct, used, shaped, is_tree, nay_node, pair_op, ternary_node}
+use Rattle.rules.specs.Pool as at
 use Rattle.rules.specs.Store.{push, zeros, blank}
 use Rattle.rules.specs.Pack.{Packed, leaf, one, two, three, pack, nodes, keep, packed_size, packed, unpack}
 use Rattle.rules.proofs.Trees.{Alike, below_in, node_same, tree_is, member_tail, both_fields, has_operands, used_same, shaped_same, build_leaf, build_one, build_two, build_three}
@@ -28,20 +28,20 @@ nodes_pos (two c v x y) = omega arith
 nodes_pos (three x y z) = omega arith
 
 -- the arrays have room for n nodes
-pub record Long (P : Nodes) (n : ℕ) : Type 0 where
+pub record Long (P : Pool) (n : ℕ) : Type 0 where
   pub in_codes : n ≤ length P.codes
-  pub in_fields : 2 * n ≤ length P.fields
+  pub in_places : 2 * n ≤ length P.places
   pub in_values : n ≤ length P.values
 
-pub less : {P : Nodes} {n : ℕ} (m : ℕ) → m ≤ n → Long P n → Long P m
-less m h l = record { in_codes = omega arith; in_fields = omega arith; in_values = omega arith }
+pub less : {P : Pool} {n : ℕ} (m : ℕ) → m ≤ n → Long P n → Long P m
+less m h l = record { in_codes = omega arith; in_places = omega arith; in_values = omega arith }
 
--- the same node at a place, of two rules
-pub record Same (P Q : Nodes) (p : ℕ) : Type 0 where
+-- two pools have the same node at a place
+pub record Same (P Q : Pool) (p : ℕ) : Type 0 where
   pub alike : Alike P Q p
   pub value_same : value P p ≡ value Q p
 
-pub same_as : {P Q R : Nodes} {p : ℕ} → Same P Q p → Same Q R p → Same P R p
+pub same_as : {P Q R : Pool} {p : ℕ} → Same P Q p → Same Q R p → Same P R p
 same_as s t = record {
   alike = record {
     code_same = s.alike.code_same ∙ t.alike.code_same;
@@ -50,25 +50,25 @@ same_as s t = record {
   value_same = s.value_same ∙ t.value_same;
 }
 
-pub itself : {P : Nodes} {p : ℕ} → Same P P p
+pub itself : {P : Pool} {p : ℕ} → Same P P p
 itself = record { alike = record { code_same = refl; field_same = λ j h. refl }; value_same = refl }
 
--- the node at a place
-pub record Node (P : Nodes) (p c x y v : ℕ) : Type 0 where
+-- the node that a pool has at a place
+pub record Node (P : Pool) (p c x y v : ℕ) : Type 0 where
   pub code_is : code P p ≡ c
   pub first_is : field P p 0 ≡ x
   pub second_is : field P p 1 ≡ y
   pub value_is : value P p ≡ v
 
 -- a node more
-module _ (P : Nodes) (k c x y v : ℕ) where
+module _ (P : Pool) (k c x y v : ℕ) where
   abbrev first : List ℕ
-  first = set P.fields (2 * k) x
+  first = set P.places (2 * k) x
 
   pub long_push : {n : ℕ} → Long P n → Long (push P k c x y v) n
   long_push l = record {
     in_codes = simp length-set l.in_codes;
-    in_fields = simp length-set l.in_fields;
+    in_places = simp length-set l.in_places;
     in_values = simp length-set l.in_values;
   }
 
@@ -77,7 +77,7 @@ module _ (P : Nodes) (k c x y v : ℕ) where
     alike = record {
       code_same = get_or-set_other P.codes k p c 0 (omega arith);
       field_same = λ j l. get_or-set_other first (2 * k + 1) (2 * p + j) y 0 (omega arith)
-          ∙ get_or-set_other P.fields (2 * k) (2 * p + j) x 0 (omega arith);
+          ∙ get_or-set_other P.places (2 * k) (2 * p + j) x 0 (omega arith);
     };
     value_same = get_or-set_other P.values k p v 0 (omega arith);
   }
@@ -87,16 +87,16 @@ module _ (P : Nodes) (k c x y v : ℕ) where
       record {
         code_is = get_or-set_same P.codes k c 0 (omega (arith, l.in_codes));
         first_is = get_or-set_other first (2 * k + 1) (2 * k + 0) y 0 (omega arith)
-            ∙ hit P.fields (2 * k) (2 * k + 0) x (omega arith) (omega (arith, l.in_fields));
-        second_is = get_or-set_same first (2 * k + 1) y 0 (omega (arith, l.in_fields, length-set P.fields (2 * k) x));
+            ∙ hit P.places (2 * k) (2 * k + 0) x (omega arith) (omega (arith, l.in_places));
+        second_is = get_or-set_same first (2 * k + 1) y 0 (omega (arith, l.in_places, length-set P.places (2 * k) x));
         value_is = get_or-set_same P.values k v 0 (omega (arith, l.in_values));
       }
     where
       hit : (s : List ℕ) (i j a : ℕ) → j ≡ i → i < length s → get_or (set s i a) j 0 ≡ a
       hit s i j a e h = rw e (get_or-set_same s i a 0 h)
 
--- nodes that agree below k hold the same trees there
-frame : (f : ℕ) (P Q : Nodes) (k : ℕ) → ((i : ℕ) → i < k → Same P Q i) → (p : ℕ) → p < f → p < k → tree_of P p ≡ tree_of Q p
+-- pools that agree below k hold the same trees there
+frame : (f : ℕ) (P Q : Pool) (k : ℕ) → ((i : ℕ) → i < k → Same P Q i) → (p : ℕ) → p < f → p < k → tree_of P p ≡ tree_of Q p
 frame zero P Q k s p h l = absurd (omega arith)
 frame (suc f) P Q k s p h l =
     let e = s p l in
@@ -104,31 +104,31 @@ frame (suc f) P Q k s p h l =
     ∙ rw (e.alike.code_same, e.alike.field_same 0 (omega arith), e.alike.field_same 1 (omega arith), e.value_same) (sym (tree_is Q p))
 
 -- the tree at a node, by the trees that its operands had before it was put
-pub tree_at_lem : {X : Nodes} {n c x y v : ℕ} → Node X n c x y v
+pub tree_at_lem : {X : Pool} {n c x y v : ℕ} → Node X n c x y v
     → tree_of X n ≡ build c x v (below (tree_of X) n x) (below (tree_of X) n y) (below (tree_of X) n (n - 1))
 tree_at_lem {X} {n} k = tree_is X n ∙ rw (k.code_is, k.first_is, k.second_is, k.value_is)
 
 -- an operand's tree is still there when its node is put: no place below m has changed since
-pub earlier : (R Q : Nodes) (n c x y v m q : ℕ) (t : Tree) → ((i : ℕ) → i < m → Same Q R i) → q < m → m ≤ n → tree_of R q ≡ t
+pub earlier : (R Q : Pool) (n c x y v m q : ℕ) (t : Tree) → ((i : ℕ) → i < m → Same Q R i) → q < m → m ≤ n → tree_of R q ≡ t
     → below (tree_of (push Q n c x y v)) n q ≡ t
 earlier R Q n c x y v m q t h l b e =
     below_in (tree_of (push Q n c x y v)) n q (omega arith)
     ∙ frame (suc q) (push Q n c x y v) R m (λ i j. same_as (push_below Q n c x y v i (omega arith)) (h i j)) q (omega arith) l ∙ e
 
--- arrays of no nodes have room for 512
+-- the pool of no nodes has room for 512
 zeros_are : (n : ℕ) → zeros n ≡ replicate n 0
 unfolding zeros
 zeros_are zero = refl
 zeros_are (suc n) = ap (λ (l : List ℕ). 0 ∷ l) (zeros_are n)
 
-pub blank_is : nodes_of (replicate 512 0) (replicate 1024 0) (replicate 512 0) ≡ blank
+pub blank_is : pool (replicate 512 0) (replicate 1024 0) (replicate 512 0) ≡ blank
 unfolding blank
 blank_is = rw (zeros_are 512, zeros_are 1024)
 
 pub long_blank : Long blank 512
 long_blank = rw (← blank_is) record {
   in_codes = omega (arith, length-replicate {A = ℕ} 512 0);
-  in_fields = omega (arith, length-replicate {A = ℕ} 1024 0);
+  in_places = omega (arith, length-replicate {A = ℕ} 1024 0);
   in_values = omega (arith, length-replicate {A = ℕ} 512 0);
 }
 
@@ -154,14 +154,14 @@ Codes C (two c v x y) = C c × Codes C x × Codes C y
 Codes C (three x y z) = C ternary_node × Codes C x × Codes C y × Codes C z
 
 -- Q is P with the places from k to n: those below n pass the test, their codes are of C, and none from l on is used
-record Filled (C : ℕ → Type 0) (P Q : Nodes) (k n l : ℕ) : Type 0 where
+record Filled (C : ℕ → Type 0) (P Q : Pool) (k n l : ℕ) : Type 0 where
   long : (m : ℕ) → Long P m → Long Q m
   same : (i : ℕ) → i < k → Same Q P i
   codes : (i : ℕ) → i < n → C (code Q i)
   shape : shaped Q n ≡ true
-  uses : Grown (operands_below Q n) (operands_below P k) k l
+  uses : Grown (used Q n) (used P k) k l
 
-again : {C : ℕ → Type 0} {P Q : Nodes} {k n l : ℕ} → Filled C P Q k n l → l ≤ n → Filled C Q Q n n n
+again : {C : ℕ → Type 0} {P Q : Pool} {k n l : ℕ} → Filled C P Q k n l → l ≤ n → Filled C Q Q n n n
 again f h = record {
   long = λ m w. w;
   same = λ i j. itself;
@@ -170,7 +170,7 @@ again f h = record {
   uses = record { apart = f.uses.apart; above = λ i j. f.uses.above i (omega arith); kept = λ i j. refl };
 }
 
-further : {C : ℕ → Type 0} {P Q R : Nodes} {j k l m n : ℕ} → Filled C Q R m n l → Filled C P Q k m j → k ≤ m → l ≤ n → Filled C P R k n n
+further : {C : ℕ → Type 0} {P Q R : Pool} {j k l m n : ℕ} → Filled C Q R m n l → Filled C P Q k m j → k ≤ m → l ≤ n → Filled C P R k n n
 further g f h b = record {
   long = λ m w. g.long m (f.long m w);
   same = λ i j. same_as (g.same i (omega arith)) (f.same i j);
@@ -184,38 +184,38 @@ further g f h b = record {
 }
 
 -- the operands of a node that was just pushed
-module _ {X : Nodes} {k c x y v : ℕ} (n : Node X k c x y v) where
-  ops_leaf : c < not_node → operands X k ≡ []
+module _ {X : Pool} {k c x y v : ℕ} (n : Node X k c x y v) where
+  ops_leaf : c < nay_node → operands X k ≡ []
   unfolding operands
-  ops_leaf h = rw (operands, n.code_is, lt-ltb c not_node h)
+  ops_leaf h = rw (operands, n.code_is, lt-ltb c nay_node h)
 
-  ops_to : (a : ℕ) → not_node ≤ c → field_places c ≡ a → operands X k ≡ operands_to X k a
-  ops_to a h e = has_operands X k (rw n.code_is h) ∙ ap (operands_to X k) (ap field_places n.code_is ∙ e)
+  ops_to : (a : ℕ) → nay_node ≤ c → fields c ≡ a → operands X k ≡ operands_to X k a
+  ops_to a h e = has_operands X k (rw n.code_is h) ∙ ap (operands_to X k) (ap fields n.code_is ∙ e)
 
-  ops_one : not_node ≤ c → c < pair_op → operands X k ≡ (k - 1) ∷ []
+  ops_one : nay_node ≤ c → c < pair_op → operands X k ≡ (k - 1) ∷ []
   unfolding operands_to
-  ops_one h l = ops_to 0 h (rw (field_places, lt-ltb c pair_op l))
+  ops_one h l = ops_to 0 h (rw (fields, lt-ltb c pair_op l))
 
   ops_two : pair_op ≤ c → c < ternary_node → operands X k ≡ x ∷ (k - 1) ∷ []
   unfolding operands_to
-  ops_two h l = ops_to 1 (omega arith) (rw (field_places, le-ltb c pair_op h, lt-ltb c ternary_node l)) ∙ rw n.first_is
+  ops_two h l = ops_to 1 (omega arith) (rw (fields, le-ltb c pair_op h, lt-ltb c ternary_node l)) ∙ rw n.first_is
 
   ops_three : ternary_node ≤ c → operands X k ≡ y ∷ x ∷ (k - 1) ∷ []
   unfolding operands_to
   ops_three h = ops_to 2 (omega arith) (both_fields c h) ∙ rw (n.first_is, n.second_is)
 
 -- a node more, over operands that are below it and that none uses
-module _ (C : ℕ → Type 0) (P Q : Nodes) (k n c x y v : ℕ) where
-  abbrev X : Nodes
+module _ (C : ℕ → Type 0) (P Q : Pool) (k n c x y v : ℕ) where
+  abbrev X : Pool
   X = push Q n c x y v
 
   node_filled : (m : ℕ) (ys : List ℕ) → m ≡ suc n → k ≤ n → Long Q (n + 1) → C c → c ≤ ternary_node → operands X n ≡ ys → all_below n ys ≡ true
-      → Filled C P Q k n n → Grown (ys ++ operands_below Q n) (operands_below P k) k n → Filled C P X k m (m - 1)
-  unfolding shaped operands_below
+      → Filled C P Q k n n → Grown (ys ++ used Q n) (used P k) k n → Filled C P X k m (m - 1)
+  unfolding shaped used
   node_filled m ys e a l p h o b f g =
-      let u : operands_below X n ≡ operands_below Q n = used_same X Q n (λ i j. (push_below Q n c x y v i j).alike) in
+      let u : used X n ≡ used Q n = used_same X Q n (λ i j. (push_below Q n c x y v i j).alike) in
       let w : shaped X n ≡ true = shaped_same X Q n (λ i j. (push_below Q n c x y v i j).alike) ∙ f.shape in
-      let d : operands_below X m ≡ ys ++ operands_below Q n = rw (e, o, u) in
+      let d : used X m ≡ ys ++ used Q n = rw (e, o, u) in
       let z : m - 1 ≡ n = omega arith in
       record {
         long = λ i j. long_push Q n c x y v (f.long i j);
@@ -229,14 +229,14 @@ module _ (C : ℕ → Type 0) (P Q : Nodes) (k n c x y v : ℕ) where
       }
 
 -- nodes kept from place k on: what they fill, and the tree at the last
-record Kept (C : ℕ → Type 0) (x : Packed) (k : ℕ) (P : Nodes) : Type 0 where
+record Kept (C : ℕ → Type 0) (x : Packed) (k : ℕ) (P : Pool) : Type 0 where
   filled : Filled C P (keep x k P) k (k + nodes x) (k + nodes x - 1)
   tree : (p : ℕ) → p + 1 ≡ k + nodes x → tree_of (keep x k P) p ≡ unpack x
 
 same_cond : {a b c x y z : Tree} → a ≡ x → b ≡ y → c ≡ z → cond a b c ≡ cond x y z
 same_cond p q r = cc
 
-fill : (C : ℕ → Type 0) (x : Packed) (k : ℕ) (P : Nodes) → Fits x → Codes C x → Long P (k + nodes x) → Filled C P P k k k → Kept C x k P
+fill : (C : ℕ → Type 0) (x : Packed) (k : ℕ) (P : Pool) → Fits x → Codes C x → Long P (k + nodes x) → Filled C P P k k k → Kept C x k P
 unfolding keep nodes all_below unpack
 fill C (leaf c m v) k P f w l h = record {
   filled = node_filled C P P k k c m 0 v _ [] (omega arith) (omega arith) l w (omega arith) (ops_leaf (pushed P k c m 0 v l) f) refl h h.uses;
@@ -278,7 +278,7 @@ fill C (two c v x y) k P f w l h =
           g
           (add
           (add g.uses (b.filled.uses.above (n - 1) (omega arith)) (omega arith) (omega arith))
-          (member_tail (n - 1) (m - 1) (operands_below Q n) (omega arith) ∙ b.filled.uses.kept (m - 1) (omega arith)
+          (member_tail (n - 1) (m - 1) (used Q n) (omega arith) ∙ b.filled.uses.kept (m - 1) (omega arith)
           ∙ a.filled.uses.above (m - 1) (omega arith))
           (omega arith)
           (omega arith));
@@ -313,10 +313,10 @@ fill C (three x y z) k P f w l h =
           (add
           (add
           (add g.uses (e.filled.uses.above (n - 1) (omega arith)) (omega arith) (omega arith))
-          (member_tail (n - 1) (m - 1) (operands_below Q n) (omega arith) ∙ i.uses.kept (m - 1) (omega arith) ∙ a.filled.uses.above (m - 1) (omega arith))
+          (member_tail (n - 1) (m - 1) (used Q n) (omega arith) ∙ i.uses.kept (m - 1) (omega arith) ∙ a.filled.uses.above (m - 1) (omega arith))
           (omega arith)
           (omega arith))
-          (member_tail (m - 1) (r - 1) ((n - 1) ∷ operands_below Q n) (omega arith) ∙ member_tail (n - 1) (r - 1) (operands_below Q n) (omega arith)
+          (member_tail (m - 1) (r - 1) ((n - 1) ∷ used Q n) (omega arith) ∙ member_tail (n - 1) (r - 1) (used Q n) (omega arith)
           ∙ e.filled.uses.kept (r - 1) (omega arith) ∙ b.filled.uses.above (r - 1) (omega arith))
           (omega arith)
           (omega arith));
@@ -332,7 +332,7 @@ fill C (three x y z) k P f w l h =
 -- nodes for a tree of at most 512, kept from place 0 on, are a tree with its root at the last place, and it is the tree there
 module _ (C : ℕ → Type 0) (x : Packed) (f : Fits x) (w : Codes C x) (h : nodes x ≤ 512) where
   kept : Kept C x 0 blank
-  unfolding shaped operands_below distinct member
+  unfolding shaped used distinct member
   kept = fill C x 0 blank f w (less (0 + nodes x) (omega arith) long_blank) record {
     long = λ m l. l;
     same = λ i j. itself;
@@ -351,7 +351,7 @@ module _ (C : ℕ → Type 0) (x : Packed) (f : Fits x) (w : Codes C x) (h : nod
   unfolding is_tree
   kept_is_tree =
       let s : shaped (keep x 0 blank) (nodes x) ≡ true = rw zero-add at kept.filled.shape in
-      let d : distinct (operands_below (keep x 0 blank) (nodes x)) ≡ true = rw zero-add at kept.filled.uses.apart in
+      let d : distinct (used (keep x 0 blank) (nodes x)) ≡ true = rw zero-add at kept.filled.uses.apart in
       rw (le-leb (nodes x) 512 h, lt-ltb (nodes x - 1) (nodes x) (omega (arith, nodes_pos x)), s, d)
 
 -- whatever the codes
@@ -362,9 +362,9 @@ any (two c v x y) = (tt, any x, any y)
 any (three x y z) = (tt, any x, any y, any z)
 
 -- the default rule is one node
-pub default_node : {P Q : Nodes} → Q ≡ push P 0 (n_op + 1) 0 0 1 → P ≡ blank → Q ≡ packed default_tree
+pub default_node : {P Q : Pool} → Q ≡ push P 0 (n_op + 1) 0 0 1 → P ≡ blank → Q ≡ packed default_tree
 unfolding packed keep pack op_code
-default_node e d = e ∙ ap (λ (R : Nodes). push R 0 (n_op + 1) 0 0 1) d
+default_node e d = e ∙ ap (λ (R : Pool). push R 0 (n_op + 1) 0 0 1) d
 
 pub packed_pos : (t : Tree) → 0 < packed_size t
 unfolding packed_size

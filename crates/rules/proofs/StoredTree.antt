@@ -1,4 +1,4 @@
--- A packed tree passes the tree test and is the tree that the nodes hold, so every answer of the nodes is the tree's own.
+-- A packed tree passes the tree test and is the tree that the pool holds, so every answer of the pool is the tree's own.
 use Prim.Native.Nat.{ℕ, ◌-◌, ◌≤◌}
 use mathlib.Core.Path.{◌≡◌, ap, ◌∙◌}
 use mathlib.Core.Bool.{true}
@@ -7,7 +7,7 @@ use Rattle.rules.specs.Tree.{Tree}
 use Rattle.rules.specs.Value.{eval_tree}
 use Rattle.rules.specs.Range.{rate_tree, fits_range}
 use Rattle.rules.specs.Answer.{form_of, range_of, fitting, resolved_of, rated_of, fit_of}
-use Rattle.rules.specs.Nodes.{tree_of, is_tree}
+use Rattle.rules.specs.Pool.{tree_of, is_tree}
 use Rattle.rules.specs.Store.{size}
 use Rattle.rules.specs.Pack.{pack, packed_size, packed}
 use Rattle.rules.proofs.Answers.{resolved_tree, rated_tree, fit_tree}
@@ -24,7 +24,7 @@ module _ (t : Tree) (few : size t ≤ 512) where
   unfolding packed_size packed
   packed_tree = kept_tree _ (pack t) (right t).fits (any (pack t)) (omega (arith, (right t).few)) ∙ (right t).same
 
-  -- so each answer of these nodes is the tree's
+  -- so each answer of the pool is the tree's
   pub packed_resolves : (n : ℕ) → resolved_of (packed t) (packed_size t) (packed_size t - 1) n ≡ form_of (eval_tree t n)
   packed_resolves n =
       resolved_tree (packed t) (packed_size t) (packed_size t - 1) n packed_is_tree ∙ ap (λ (u : Tree). form_of (eval_tree u n)) packed_tree

@@ -5,7 +5,7 @@ use contract.Lifetimes.{Lfts}
 use denote.Triple.Clauses.{AtExit}
 use Rattle.promise.proofs.One.{One, OneLeft}
 use borrow.Fn.Kinds.{ended_of}
-use Rattle.rules.specs.Nodes.{Nodes, nodes_of}
+use Rattle.rules.specs.Pool.{Pool, pool}
 use Rattle.rules.proofs.field.Reads as field
 use Rattle.rules.proofs.field.Kinds as field-kinds
 use Rattle.rules.proofs.place.Reads as place
@@ -21,15 +21,15 @@ field_one κs a u v x y p q = p ∙ sym q
 pub place_one : One 1 place-kinds.ps place-kinds.r place.Post
 place_one κs a u v x y p q = p ∙ sym q
 
--- the arrays that are lent, as nodes
-abbrev pub put_left : (κs : Lfts 3) → AtExit (ended_of 3 put-kinds.ps put-kinds.r) κs → Nodes
-put_left κs x = nodes_of x.0.now x.1.0.now x.1.1.0.now
+-- the arrays that are lent, as a pool
+abbrev pub put_left : (κs : Lfts 3) → AtExit (ended_of 3 put-kinds.ps put-kinds.r) κs → Pool
+put_left κs x = pool x.0.now x.1.0.now x.1.1.0.now
 
 pub put_one : OneLeft 3 put-kinds.ps put-kinds.r put.Post put_left
 put_one κs a u v x y p q = (refl, p ∙ sym q)
 
-abbrev pub default_left : (κs : Lfts 3) → AtExit (ended_of 3 put-default-kinds.ps put-default-kinds.r) κs → Nodes
-default_left κs x = nodes_of x.0.now x.1.0.now x.1.1.0.now
+abbrev pub default_left : (κs : Lfts 3) → AtExit (ended_of 3 put-default-kinds.ps put-default-kinds.r) κs → Pool
+default_left κs x = pool x.0.now x.1.0.now x.1.1.0.now
 
 pub put_default_one : OneLeft 3 put-default-kinds.ps put-default-kinds.r put-default.Post default_left
 put_default_one κs a u v x y p q = (p.1 ∙ sym q.1, p.0 ∙ sym q.0)

@@ -1,5 +1,5 @@
--- What a rule's nodes answer: the value of its rule at a count, its range, and whether it fits a number. SPEC 7 and
--- "The record": nodes that are no tree have none of these.
+-- What a pool answers: the value of its rule at a count, its range, and whether it fits a number. SPEC 7 and
+-- "The record": a pool that is no tree has none of these.
 use Rattle.std.specs.Prelude.{ℕ, Bool, true, false}
 use Rattle.rules.specs.declared.Value.{Value}
 use Rattle.rules.specs.declared.Value.TheVariants as value
@@ -13,7 +13,7 @@ use Rattle.rules.specs.declared.Fit.{Fit}
 use Rattle.rules.specs.declared.Fit.TheVariants as fit
 use Rattle.rules.specs.Value.{eval_tree}
 use Rattle.rules.specs.Range.{rate_tree, fits_range}
-use Rattle.rules.specs.Nodes.{Nodes, tree_of, is_tree}
+use Rattle.rules.specs.Pool.{Pool, tree_of, is_tree}
 
 abbrev pub form_of : Value → Resolved
 form_of (value.Is x) = resolved.Form x
@@ -28,13 +28,13 @@ fitting true = fit.Yes
 fitting false = fit.No
 
 -- the value of the rule at a count
-unfoldable pub resolved_of : Nodes → ℕ → ℕ → ℕ → Resolved
+unfoldable pub resolved_of : Pool → ℕ → ℕ → ℕ → Resolved
 resolved_of P count root n = elim (is_tree P count root) [ true ↦ form_of (eval_tree (tree_of P root) n) | false ↦ resolved.NoTree ]
 
 -- its range
-unfoldable pub rated_of : Nodes → ℕ → ℕ → Rated
+unfoldable pub rated_of : Pool → ℕ → ℕ → Rated
 rated_of P count root = elim (is_tree P count root) [ true ↦ range_of (rate_tree (tree_of P root)) | false ↦ rated.NoTree ]
 
 -- whether it fits k
-unfoldable pub fit_of : Nodes → ℕ → ℕ → ℕ → Fit
+unfoldable pub fit_of : Pool → ℕ → ℕ → ℕ → Fit
 fit_of P count root k = elim (is_tree P count root) [ true ↦ fitting (fits_range (rate_tree (tree_of P root)) k) | false ↦ fit.NoTree ]

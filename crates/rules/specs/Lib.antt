@@ -2,7 +2,7 @@ pub mod Tree
 pub mod Operator
 pub mod Value
 pub mod Range
-pub mod Nodes
+pub mod Pool
 pub mod Store
 pub mod Pack
 pub mod Answer

@@ -2,10 +2,10 @@
 -- operator's.
 use Rattle.std.specs.Prelude.{ℕ, zero, suc, ◌≡◌, List, [], ◌∷◌}
 use Rattle.std.proofs.Math.Option.{Option, none, some}
-use Rattle.rules.specs.Tree.{Op, cmp, calc, and, or, modulo, divide, Cmp, equal, not_equal, greater_or_equal, smaller_or_equal, greater, smaller, plus, minus, times}
+use Rattle.rules.specs.Tree.{Op, cmp, calc, and, or, rem, div, Cmp, eq, ne, ge, le, gt, lt, plus, minus, times}
 
 abbrev pub operators : List Op
-operators = cmp equal ∷ cmp not_equal ∷ cmp greater_or_equal ∷ cmp smaller_or_equal ∷ cmp greater ∷ cmp smaller ∷ and ∷ or ∷ modulo ∷ divide ∷ calc plus ∷ calc minus ∷ calc times ∷ []
+operators = cmp eq ∷ cmp ne ∷ cmp ge ∷ cmp le ∷ cmp gt ∷ cmp lt ∷ and ∷ or ∷ rem ∷ div ∷ calc plus ∷ calc minus ∷ calc times ∷ []
 
 unfoldable pub op_at : List Op → ℕ → Option Op
 op_at [] i = none
@@ -23,16 +23,16 @@ pub record Named (i : ℕ) : Type 0 where
 
 -- the number of an operator
 unfoldable pub op_code : Op → ℕ
-op_code (cmp equal) = 0
-op_code (cmp not_equal) = 1
-op_code (cmp greater_or_equal) = 2
-op_code (cmp smaller_or_equal) = 3
-op_code (cmp greater) = 4
-op_code (cmp smaller) = 5
+op_code (cmp eq) = 0
+op_code (cmp ne) = 1
+op_code (cmp ge) = 2
+op_code (cmp le) = 3
+op_code (cmp gt) = 4
+op_code (cmp lt) = 5
 op_code and = 6
 op_code or = 7
-op_code modulo = 8
-op_code divide = 9
+op_code rem = 8
+op_code div = 9
 op_code (calc plus) = 10
 op_code (calc minus) = 11
 op_code (calc times) = 12

@@ -1,7 +1,7 @@
 -- How a tree is packed, its leaves folded into their parents where a code says so; how a packed tree is unfolded; and where its nodes go.
 -- proofs/Packs.antt: what is packed is unfolded to the same tree; proofs/Stored.antt: and it is the tree that the arrays hold.
 use Rattle.std.specs.Prelude.{ℕ, ◌+◌, ◌-◌, Bool, true, false, ◌&&◌, ltb}
-use Rattle.rules.specs.Tree.{Tree, var, int, negate, bin, cond, Op, cmp, and, or, modulo, divide, calc}
+use Rattle.rules.specs.Tree.{Tree, var, int, nay, bin, cond, Op, cmp, and, or, rem, div, calc}
 use Rattle.rules.specs.Operator.{op_code}
 use Rattle.rules.specs.declared.Number.{Number}
 use Rattle.rules.specs.declared.Number.TheVariants as number
@@ -9,8 +9,8 @@ use Rattle.rules.specs.declared.Small.{Small}
 use Rattle.rules.specs.declared.Small.TheVariants as small
 use Rattle.rules.specs.declared.Left.{Left}
 use Rattle.rules.specs.declared.Left.TheVariants as left
-use Rattle.rules.specs.Nodes as nodes_of
-use Rattle.rules.specs.Nodes.{Nodes, n_op, rest_op, not_node, pick_node, value_op, pair_op, choice_node, ternary_node}
+use Rattle.rules.specs.Pool as pool
+use Rattle.rules.specs.Pool.{Pool, n_op, rest_op, nay_node, pick_node, value_op, pair_op, choice_node, ternary_node}
 use Rattle.rules.specs.Store.{push, blank}
 
 -- a node with no, one, two or three operands: its code (ternary_node where there are three), the number in its first field, its value
@@ -21,16 +21,16 @@ pub data Packed : Type 0 where
   three : Packed → Packed → Packed → Packed
 
 unfoldable pub unpack : Packed → Tree
-unpack (leaf c m v) = nodes_of.leaf c m v
-unpack (one c m v x) = nodes_of.one c m v (unpack x)
-unpack (two c v x y) = nodes_of.two c v (unpack x) (unpack y)
+unpack (leaf c m v) = pool.leaf c m v
+unpack (one c m v x) = pool.one c m v (unpack x)
+unpack (two c v x y) = pool.two c v (unpack x) (unpack y)
 unpack (three x y z) = cond (unpack x) (unpack y) (unpack z)
 
 -- what is looked for in an operand: an integer; one that a field can hold; n, or n % m with such an m
 unfoldable pub number_of : Tree → Number
 number_of var = number.Other
 number_of (int v) = number.Is v
-number_of (negate t) = number.Other
+number_of (nay t) = number.Other
 number_of (bin op s t) = number.Other
 number_of (cond s t u) = number.Other
 
@@ -44,7 +44,7 @@ small_of t = small_by (number_of t)
 unfoldable pub is_count : Tree → Bool
 is_count var = true
 is_count (int v) = false
-is_count (negate t) = false
+is_count (nay t) = false
 is_count (bin op s t) = false
 is_count (cond s t u) = false
 
@@ -52,8 +52,8 @@ unfoldable pub is_rem : Op → Bool
 is_rem (cmp k) = false
 is_rem and = false
 is_rem or = false
-is_rem modulo = true
-is_rem divide = false
+is_rem rem = true
+is_rem div = false
 is_rem (calc c) = false
 
 abbrev pub rest_by : Small → Left
@@ -64,7 +64,7 @@ unfoldable pub left_of : Tree → Left
 unfolding number_of is_count is_rem
 left_of var = left.Count
 left_of (int v) = left.Other
-left_of (negate t) = left.Other
+left_of (nay t) = left.Other
 left_of (bin op s t) = elim (is_rem op && is_count s) [ true ↦ rest_by (small_of t) | false ↦ left.Other ]
 left_of (cond s t u) = left.Other
 
@@ -84,7 +84,7 @@ unfoldable pub pack : Tree → Packed
 unfolding number_of left_of
 pack var = leaf 0 0 0
 pack (int v) = leaf 1 0 v
-pack (negate t) = one not_node 0 0 (pack t)
+pack (nay t) = one nay_node 0 0 (pack t)
 pack (bin op s t) = pack_bin op (left_of s) (number_of t) (pack s) (pack t)
 pack (cond s t u) = pack_cond (number_of t) (small_of u) (pack s) (pack t) (pack u)
 
@@ -95,7 +95,7 @@ nodes (one c m v x) = nodes x + 1
 nodes (two c v x y) = nodes x + nodes y + 1
 nodes (three x y z) = nodes x + nodes y + nodes z + 1
 
-unfoldable pub keep : Packed → ℕ → Nodes → Nodes
+unfoldable pub keep : Packed → ℕ → Pool → Pool
 unfolding nodes
 keep (leaf c m v) k P = push P k c m 0 v
 keep (one c m v x) k P = push (keep x k P) (k + nodes x) c m 0 v
@@ -113,5 +113,5 @@ keep (three x y z) k P =
 unfoldable pub packed_size : Tree → ℕ
 packed_size t = nodes (pack t)
 
-unfoldable pub packed : Tree → Nodes
+unfoldable pub packed : Tree → Pool
 packed t = keep (pack t) 0 blank

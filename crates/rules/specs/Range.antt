@@ -2,7 +2,7 @@
 use Rattle.std.specs.Prelude.{ℕ, ◌+◌, ◌-◌, ◌*◌, ◌/◌, ◌^◌, min, max, Bool, true, false, leb, ltb, eqb}
 use Rattle.rules.specs.declared.Rating.{Rating}
 use Rattle.rules.specs.declared.Rating.TheVariants.{Range, Unrated}
-use Rattle.rules.specs.Tree.{Tree, var, int, negate, bin, cond, Op, cmp, calc, and, or, modulo, divide, plus, minus, times}
+use Rattle.rules.specs.Tree.{Tree, var, int, nay, bin, cond, Op, cmp, calc, and, or, rem, div, plus, minus, times}
 
 abbrev pub pick_r : Bool → Rating → Rating → Rating
 pick_r true r s = r
@@ -21,8 +21,8 @@ unfolding kept
 op_range (cmp c) k h l m = Range 0 1
 op_range and k h l m = Range 0 1
 op_range or k h l m = Range 0 1
-op_range modulo k h l m = pick_r (eqb l 0) Unrated (Range 0 (min h (m - 1)))
-op_range divide k h l m = pick_r (eqb l 0) Unrated (Range (k / m) (h / l))
+op_range rem k h l m = pick_r (eqb l 0) Unrated (Range 0 (min h (m - 1)))
+op_range div k h l m = pick_r (eqb l 0) Unrated (Range (k / m) (h / l))
 op_range (calc plus) k h l m = kept (k + l) (h + m)
 op_range (calc minus) k h l m = pick_r (leb m k) (kept (k - m) (h - l)) full_range
 op_range (calc times) k h l m = kept (k * l) (h * m)
@@ -45,7 +45,7 @@ cond_range Unrated q r = Unrated
 unfoldable pub rate_tree : Tree → Rating
 rate_tree var = full_range
 rate_tree (int x) = Range x x
-rate_tree (negate t) = not_range (rate_tree t)
+rate_tree (nay t) = not_range (rate_tree t)
 rate_tree (bin op s t) = bin_range op (rate_tree s) (rate_tree t)
 rate_tree (cond s t u) = cond_range (rate_tree s) (rate_tree t) (rate_tree u)
 

@@ -2,22 +2,22 @@
 -- tree, the tree's nodes from place 0 on, as many as the answer says and no more than the text has bytes; else there is no reading, and
 -- nothing is said of the arrays.
 use Rattle.std.specs.Prelude.{ℕ, ◌≤◌, ◌≡◌, List, length}
-use Rattle.rules.specs.declared.ReadNodes.{ReadNodes}
-use Rattle.rules.specs.declared.ReadNodes.TheVariants.{Read, NoReading}
-use Rattle.rules.specs.Tree.{Tree, Result, tree, none}
-use Rattle.rules.specs.Nodes.{Nodes}
+use Rattle.rules.specs.declared.Nodes.{Nodes}
+use Rattle.rules.specs.declared.Nodes.TheVariants.{Read, NoReading}
+use Rattle.rules.specs.Tree.{Tree, Reading, tree, none}
+use Rattle.rules.specs.Pool.{Pool}
 use Rattle.rules.specs.Store.{size, store}
 
 -- the tree t of a text s is stored: P are the arrays before, Q after
-pub record Stored (t : Tree) (s : List ℕ) (P Q : Nodes) (r : ReadNodes) : Type 0 where
+pub record Stored (t : Tree) (s : List ℕ) (P Q : Pool) (r : Nodes) : Type 0 where
   pub answer : r ≡ Read (size t)
   pub stored : Q ≡ store t 0 P
   pub fits : size t ≤ length s
 
-abbrev pub Answer : Result → List ℕ → Nodes → Nodes → ReadNodes → Type 0
+abbrev pub Answer : Reading → List ℕ → Pool → Pool → Nodes → Type 0
 Answer (tree t) s P Q r = Stored t s P Q r
 Answer none s P Q r = r ≡ NoReading
 
 -- what a reader promises of a text s with the reading o
-pub record Answered (o : Result) (s : List ℕ) (P Q : Nodes) (r : ReadNodes) : Type 0 where
+pub record Answered (o : Reading) (s : List ℕ) (P Q : Pool) (r : Nodes) : Type 0 where
   pub read : Answer o s P Q r

@@ -3,7 +3,7 @@
 use Rattle.std.specs.Prelude.{ℕ}
 
 pub data Cmp : Type 0 where
-  equal not_equal greater_or_equal smaller_or_equal greater smaller : Cmp
+  eq ne ge le gt lt : Cmp
 
 pub data Calc : Type 0 where
   plus minus times : Calc
@@ -11,20 +11,20 @@ pub data Calc : Type 0 where
 pub data Op : Type 0 where
   cmp : Cmp → Op
   calc : Calc → Op
-  and or modulo divide : Op
+  and or rem div : Op
 
 pub data Tree : Type 0 where
   var : Tree
   int : ℕ → Tree
-  negate : Tree → Tree
+  nay : Tree → Tree
   bin : Op → Tree → Tree → Tree
   cond : Tree → Tree → Tree → Tree
 
 -- what a reading makes of a text: its tree, or no reading
-pub data Result : Type 0 where
-  tree : Tree → Result
-  none : Result
+pub data Reading : Type 0 where
+  tree : Tree → Reading
+  none : Reading
 
 -- the rule of a catalog without one: n != 1
 abbrev pub default_tree : Tree
-default_tree = bin (cmp not_equal) var (int 1)
+default_tree = bin (cmp ne) var (int 1)

@@ -4,19 +4,19 @@
 use Rattle.std.specs.Prelude.{ℕ, ◌+◌, ◌-◌, ◌*◌, ◌/◌, ◌%◌, ◌^◌, Bool, true, false, not, ltb, leb, eqb}
 use Rattle.rules.specs.declared.Value.{Value}
 use Rattle.rules.specs.declared.Value.TheVariants.{Is, ZeroModulus}
-use Rattle.rules.specs.Tree.{Tree, var, int, negate, bin, cond, Op, cmp, calc, and, or, modulo, divide, Cmp, equal, not_equal, greater_or_equal, smaller_or_equal, greater, smaller, Calc, plus, minus, times}
+use Rattle.rules.specs.Tree.{Tree, var, int, nay, bin, cond, Op, cmp, calc, and, or, rem, div, Cmp, eq, ne, ge, le, gt, lt, Calc, plus, minus, times}
 
 abbrev pub truth : Bool → ℕ
 truth true = 1
 truth false = 0
 
 abbrev pub compared : Cmp → ℕ → ℕ → Bool
-compared equal x y = eqb x y
-compared not_equal x y = not (eqb x y)
-compared greater_or_equal x y = leb y x
-compared smaller_or_equal x y = leb x y
-compared greater x y = ltb y x
-compared smaller x y = ltb x y
+compared eq x y = eqb x y
+compared ne x y = not (eqb x y)
+compared ge x y = leb y x
+compared le x y = leb x y
+compared gt x y = ltb y x
+compared lt x y = ltb x y
 
 -- modulo 2^64
 unfoldable pub calculated : Calc → ℕ → ℕ → ℕ
@@ -41,10 +41,10 @@ binary (cmp k) (Is x) (Is y) = Is (truth (compared k x y))
 binary (cmp k) (Is x) ZeroModulus = ZeroModulus
 binary and (Is x) w = pick_v (eqb x 0) (Is 0) (truth_v w)
 binary or (Is x) w = pick_v (eqb x 0) (truth_v w) (Is 1)
-binary modulo (Is x) (Is y) = pick_v (eqb y 0) ZeroModulus (Is (x % y))
-binary modulo (Is x) ZeroModulus = ZeroModulus
-binary divide (Is x) (Is y) = pick_v (eqb y 0) ZeroModulus (Is (x / y))
-binary divide (Is x) ZeroModulus = ZeroModulus
+binary rem (Is x) (Is y) = pick_v (eqb y 0) ZeroModulus (Is (x % y))
+binary rem (Is x) ZeroModulus = ZeroModulus
+binary div (Is x) (Is y) = pick_v (eqb y 0) ZeroModulus (Is (x / y))
+binary div (Is x) ZeroModulus = ZeroModulus
 binary (calc c) (Is x) (Is y) = Is (calculated c x y)
 binary (calc c) (Is x) ZeroModulus = ZeroModulus
 
@@ -59,6 +59,6 @@ chosen ZeroModulus v w = ZeroModulus
 unfoldable pub eval_tree : Tree → ℕ → Value
 eval_tree var n = Is n
 eval_tree (int x) n = Is x
-eval_tree (negate t) n = negated (eval_tree t n)
+eval_tree (nay t) n = negated (eval_tree t n)
 eval_tree (bin op s t) n = binary op (eval_tree s n) (eval_tree t n)
 eval_tree (cond s t u) n = chosen (eval_tree s n) (eval_tree t n) (eval_tree u n)

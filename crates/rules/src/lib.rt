@@ -3,17 +3,15 @@
 // them; their answers are declared here, since the definitions name them.
 ghost use Rattle.std.specs.Prelude.{◌≡◌, ◌+◌, ◌<◌, ◌*◌, get_or};
 ghost use Rattle.rules.specs.Tree.{default_tree};
-ghost use Rattle.rules.specs.Nodes.{nodes_of};
+ghost use Rattle.rules.specs.Pool.{pool};
 ghost use Rattle.rules.specs.Store.{push};
 ghost use Rattle.rules.specs.Pack.{packed_size, packed};
 
 // The codes of nodes.
 pub mod node;
 
-// The most nodes of a rule, and the most bytes of its text.
-pub const MOST_NODES: usize = 512;
-
-pub const MOST_BYTES: usize = 512;
+// The most nodes of a rule.
+pub const MOST: usize = 512;
 
 // The value of a rule at a count.
 #[derive(Drop)]
@@ -31,12 +29,12 @@ pub enum Rating {
 
 // What reading a rule leaves in the lent arrays: this many nodes, or nothing of use.
 #[derive(Drop)]
-pub enum ReadNodes {
+pub enum Nodes {
     Read(usize),
     NoReading,
 }
 
-// The value of a rule's nodes at a count.
+// The value of a rule in a pool at a count.
 #[derive(Drop)]
 pub enum Resolved {
     Form(u64),
@@ -44,7 +42,7 @@ pub enum Resolved {
     NoTree,
 }
 
-// The range of a rule's nodes.
+// The range of a rule in a pool.
 #[derive(Drop)]
 pub enum Rated {
     Range(u64, u64),
@@ -52,7 +50,7 @@ pub enum Rated {
     NoTree,
 }
 
-// Whether the forms of a rule's nodes are all below a number.
+// Whether the forms of a rule in a pool are all below a number.
 #[derive(Drop)]
 pub enum Fit {
     Yes,
@@ -85,7 +83,7 @@ pub enum Left {
 // Puts a node at place k: its code, its fields and its value.
 pub fn put(
     codes: &mut [u8; 512],
-    fields: &mut [u16; 1024],
+    places: &mut [u16; 1024],
     values: &mut [u64; 512],
     k: usize,
     code: u8,
@@ -94,30 +92,30 @@ pub fn put(
     value: u64,
 )
     requires { k < 512 }
-    ensures { nodes_of codes.new fields.new values.new ≡
-        push (nodes_of codes.old fields.old values.old) k code x y value }
+    ensures { pool codes.new places.new values.new ≡
+        push (pool codes.old places.old values.old) k code x y value }
 {
     codes[k] = code;
-    fields[2 * k] = x;
-    fields[2 * k + 1] = y;
+    places[2 * k] = x;
+    places[2 * k + 1] = y;
     values[k] = value;
 }
 
 // The rule of a catalog without one, n != 1, alone in the arrays; how many nodes it has.
 pub fn put_default(
     codes: &mut [u8; 512],
-    fields: &mut [u16; 1024],
+    places: &mut [u16; 1024],
     values: &mut [u64; 512],
 ) -> usize
-    ensures nodes { nodes_of codes.new fields.new values.new ≡ packed default_tree }
+    ensures nodes { pool codes.new places.new values.new ≡ packed default_tree }
     ensures count { result ≡ packed_size default_tree }
 {
     *codes = [0u8; 512];
-    *fields = [0u16; 1024];
+    *places = [0u16; 1024];
     *values = [0u64; 512];
     put(
         codes,
-        fields,
+        places,
         values,
         0,
         node::N_OP + node::NOT_EQUAL,
@@ -129,17 +127,17 @@ pub fn put_default(
 }
 
 // The number in field j of the node at a place.
-pub fn field<'a>(fields: &'a [u16; 1024], at: usize, j: usize) -> u16
+pub fn field<'a>(places: &'a [u16; 1024], at: usize, j: usize) -> u16
     requires { (at < 512) × (j < 2) }
-    ensures { result ≡ get_or fields.now (2 * at + j) 0 }
+    ensures { result ≡ get_or places.now (2 * at + j) 0 }
 {
-    fields[2 * at + j]
+    places[2 * at + j]
 }
 
 // The same as a place.
-pub fn place<'a>(fields: &'a [u16; 1024], at: usize, j: usize) -> usize
+pub fn place<'a>(places: &'a [u16; 1024], at: usize, j: usize) -> usize
     requires { (at < 512) × (j < 2) }
-    ensures { result ≡ get_or fields.now (2 * at + j) 0 }
+    ensures { result ≡ get_or places.now (2 * at + j) 0 }
 {
-    field(fields, at, j) as usize
+    field(places, at, j) as usize
 }

@@ -1,4 +1,4 @@
-// The codes of nodes, without a gap, as the table of specs/Nodes.antt has them: v is a node's value, m its first field, x and y the nodes at
+// The codes of nodes, without a gap, as the table of specs/Pool.antt has them: v is a node's value, m its first field, x and y the nodes at
 // the places that its fields name, b the node before it. To a code with _OP the number of an operator is added.
 pub const N: u8 = 0;
 
@@ -21,10 +21,10 @@ pub const PICK: u8 = NOT + 1;
 pub const VALUE_OP: u8 = PICK + 1;
 
 // x op b
-pub const PAIR_OP: u8 = VALUE_OP + OPERATORS;
+pub const OP: u8 = VALUE_OP + OPERATORS;
 
 // x ? v : b
-pub const CHOICE: u8 = PAIR_OP + OPERATORS;
+pub const CHOICE: u8 = OP + OPERATORS;
 
 // x ? y : b
 pub const TERNARY: u8 = CHOICE + 1;

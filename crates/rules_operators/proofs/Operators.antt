@@ -6,7 +6,7 @@ use native.Mathlib.Decide.{ℕ_discrete}
 use borrow.Author.Tests.{not-true, not-false}
 use Rattle.rules.specs.declared.Value.{Value}
 use Rattle.rules.specs.declared.Value.TheVariants.{Is, ZeroModulus}
-use Rattle.rules.specs.Tree.{Op, cmp, calc, and, or, modulo, divide, Cmp, equal, not_equal, greater_or_equal, smaller_or_equal, greater, smaller, Calc, plus, minus, times}
+use Rattle.rules.specs.Tree.{Op, cmp, calc, and, or, rem, div, Cmp, eq, ne, ge, le, gt, lt, Calc, plus, minus, times}
 use Rattle.rules.specs.Value.{binary, truth_v}
 use Rattle.rules.specs.Operator.{op_of, op_at, op_code}
 use Rattle.rules.proofs.Operators.{never, code_in, code_is, op_at_lem}
@@ -16,14 +16,14 @@ pub same_cmp : {j k : Cmp} → some (cmp j) ≡ some (cmp k) → j ≡ k
 same_cmp e = cc
 
 -- a comparison whose number is no other's is ==
-pub cmp_rest : (i : ℕ) (k : Cmp) → op_of i ≡ some (cmp k) → (i ≡ 1 → ⊥) → (i ≡ 2 → ⊥) → (i ≡ 3 → ⊥) → (i ≡ 4 → ⊥) → (i ≡ 5 → ⊥) → k ≡ equal
+pub cmp_rest : (i : ℕ) (k : Cmp) → op_of i ≡ some (cmp k) → (i ≡ 1 → ⊥) → (i ≡ 2 → ⊥) → (i ≡ 3 → ⊥) → (i ≡ 4 → ⊥) → (i ≡ 5 → ⊥) → k ≡ eq
 unfolding op_code
-cmp_rest i equal e h1 h2 h3 h4 h5 = refl
-cmp_rest i not_equal e h1 h2 h3 h4 h5 = absurd (h1 (sym (code_is i (cmp not_equal) e)))
-cmp_rest i greater_or_equal e h1 h2 h3 h4 h5 = absurd (h2 (sym (code_is i (cmp greater_or_equal) e)))
-cmp_rest i smaller_or_equal e h1 h2 h3 h4 h5 = absurd (h3 (sym (code_is i (cmp smaller_or_equal) e)))
-cmp_rest i greater e h1 h2 h3 h4 h5 = absurd (h4 (sym (code_is i (cmp greater) e)))
-cmp_rest i smaller e h1 h2 h3 h4 h5 = absurd (h5 (sym (code_is i (cmp smaller) e)))
+cmp_rest i eq e h1 h2 h3 h4 h5 = refl
+cmp_rest i ne e h1 h2 h3 h4 h5 = absurd (h1 (sym (code_is i (cmp ne) e)))
+cmp_rest i ge e h1 h2 h3 h4 h5 = absurd (h2 (sym (code_is i (cmp ge) e)))
+cmp_rest i le e h1 h2 h3 h4 h5 = absurd (h3 (sym (code_is i (cmp le) e)))
+cmp_rest i gt e h1 h2 h3 h4 h5 = absurd (h4 (sym (code_is i (cmp gt) e)))
+cmp_rest i lt e h1 h2 h3 h4 h5 = absurd (h5 (sym (code_is i (cmp lt) e)))
 
 -- the numbers below 6 are the comparisons'
 pub record IsCmp (op : Op) : Type 0 where
@@ -35,8 +35,8 @@ unfolding op_code
 low_cmp i (cmp k) e h = record { which = k; is = refl }
 low_cmp i and e h = let d = code_is i and e in absurd (omega arith)
 low_cmp i or e h = let d = code_is i or e in absurd (omega arith)
-low_cmp i modulo e h = let d = code_is i modulo e in absurd (omega arith)
-low_cmp i divide e h = let d = code_is i divide e in absurd (omega arith)
+low_cmp i rem e h = let d = code_is i rem e in absurd (omega arith)
+low_cmp i div e h = let d = code_is i div e in absurd (omega arith)
 low_cmp i (calc plus) e h = let d = code_is i (calc plus) e in absurd (omega arith)
 low_cmp i (calc minus) e h = let d = code_is i (calc minus) e in absurd (omega arith)
 low_cmp i (calc times) e h = let d = code_is i (calc times) e in absurd (omega arith)
@@ -63,7 +63,7 @@ calc_rest i minus e h1 h2 = absurd (h2 (sym (code_is i (calc minus) e)))
 calc_rest i times e h1 h2 = refl
 
 -- 9 is the number of /
-pub is_div : (i : ℕ) (op : Op) → op_of i ≡ some op → 7 < i → i < 10 → (i ≡ 8 → ⊥) → op ≡ divide
+pub is_div : (i : ℕ) (op : Op) → op_of i ≡ some op → 7 < i → i < 10 → (i ≡ 8 → ⊥) → op ≡ div
 unfolding op_of op_at
 is_div i op e h l n = op_at_lem i 9 e (omega arith) refl
 
@@ -86,8 +86,8 @@ settled_rest i x a o = go (op_of i) refl
     go (some (cmp k)) e = refl
     go (some and) e = absurd (a (sym (code_is i and e)))
     go (some or) e = absurd (o (sym (code_is i or e)))
-    go (some modulo) e = refl
-    go (some divide) e = refl
+    go (some rem) e = refl
+    go (some div) e = refl
     go (some (calc c)) e = refl
 
 -- what the left operand settles, no right operand changes
@@ -96,8 +96,8 @@ unfolding settled binary
 settled_any (cmp k) x v e = never e
 settled_any and x v e = rw e
 settled_any or x v e = rw (not-true (eqb x 0) e)
-settled_any modulo x v e = never e
-settled_any divide x v e = never e
+settled_any rem x v e = never e
+settled_any div x v e = never e
 settled_any (calc c) x v e = never e
 
 -- what it does not settle fails where the right operand does
@@ -106,6 +106,6 @@ unfolding settled binary truth_v
 unsettled (cmp k) x e = refl
 unsettled and x e = rw e
 unsettled or x e = rw (not-false (eqb x 0) e)
-unsettled modulo x e = refl
-unsettled divide x e = refl
+unsettled rem x e = refl
+unsettled div x e = refl
 unsettled (calc c) x e = refl

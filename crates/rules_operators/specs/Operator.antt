@@ -3,7 +3,7 @@ use Rattle.std.specs.Prelude.{◌≡◌, ℕ, Bool, true, false, not, ◌==◌}
 use Rattle.std.proofs.Math.Option.{Option, none, some}
 use Rattle.rules.specs.declared.Value.{Value}
 use Rattle.rules.specs.declared.Value.TheVariants.{Is, ZeroModulus}
-use Rattle.rules.specs.Tree.{Op, cmp, calc, and, or, modulo, divide, Cmp, Calc}
+use Rattle.rules.specs.Tree.{Op, cmp, calc, and, or, rem, div, Cmp, Calc}
 use Rattle.rules.specs.Value.{compared, calculated, binary}
 use Rattle.rules.specs.Operator.{op_of}
 
@@ -12,8 +12,8 @@ unfoldable pub settled : Op → ℕ → Bool
 settled (cmp k) x = false
 settled and x = x == 0
 settled or x = not (x == 0)
-settled modulo x = false
-settled divide x = false
+settled rem x = false
+settled div x = false
 settled (calc c) x = false
 
 abbrev pub settled_by : Option Op → ℕ → Bool
@@ -28,7 +28,7 @@ pub record Compares (i x y : ℕ) (r : Bool) : Type 0 where
 pub record Calculates (i x y r : ℕ) : Type 0 where
   pub is : (k : Calc) → op_of i ≡ some (calc k) → r ≡ calculated k x y
 
--- a value as a number r and a flag, which was b and is c: a remainder or quotient by zero sets the flag, and the number counts where none was met
+-- a value as a number r and a flag, which was b and is c: a remainder by zero sets the flag, and the number counts where none was met
 abbrev pub Given : Value → Bool → Bool → ℕ → Type 0
 Given (Is x) b c r = (r ≡ x) × (c ≡ b)
 Given ZeroModulus b c r = c ≡ true
@@ -36,7 +36,7 @@ Given ZeroModulus b c r = c ≡ true
 pub record Gives (v : Value) (b c : Bool) (r : ℕ) : Type 0 where
   pub given : Given v b c r
 
--- the operator of number i on two numbers; the number beside a remainder or quotient by zero is 0
+-- the operator of number i on two numbers; the number beside a remainder by zero is 0
 pub record Applies (i x y : ℕ) (b c : Bool) (r : ℕ) : Type 0 where
   pub gives : (op : Op) → op_of i ≡ some op → Gives (binary op (Is x) (Is y)) b c r
   pub failed : (op : Op) → op_of i ≡ some op → binary op (Is x) (Is y) ≡ ZeroModulus → r ≡ 0

@@ -8,9 +8,9 @@ use native.Mathlib.Decide.{ℕ_discrete}
 use lib.ListN.{replicate}
 use lib.Dec.{leb, ltb}
 use borrow.Author.Tests.{ne_eqb, lt-leb, leb-true, ltb-true}
-use Rattle.rules.specs.Tree.{Tree, var, int, negate, bin, cond, Op, cmp, and, or, modulo, calc, divide}
+use Rattle.rules.specs.Tree.{Tree, var, int, nay, bin, cond, Op, cmp, and, or, rem, calc, div}
 use Rattle.rules.specs.Operator.{op_of, op_at, op_code, Named}
-use Rattle.rules.specs.Nodes.{Nodes, nodes_of, code, value, field, tree_of, n_op, rest_op, not_node, pick_node, value_op, pair_op, choice_node, ternary_node}
+use Rattle.rules.specs.Pool.{Pool, pool, code, value, field, tree_of, n_op, rest_op, nay_node, pick_node, value_op, pair_op, choice_node, ternary_node}
 use Rattle.rules.specs.Promise.{plain, Plain}
 use Rattle.rules.specs.declared.Number.{Number}
 use Rattle.rules.specs.declared.Number.TheVariants as number
@@ -31,32 +31,32 @@ Pair c = (pair_op ≤ c) × (c < choice_node)
 
 -- a reader's code that is neither n nor an integer has an operand, one that is not ! has two, and one that is not ?: is an operator's
 module _ (c : ℕ) (e : plain c ≡ true) (h0 : c ≡ 0 → ⊥) (h1 : c ≡ 1 → ⊥) where
-  rest_of : (c ≡ not_node → ⊥) → (c ≡ ternary_node → ⊥) → Pair c
+  rest_of : (c ≡ nay_node → ⊥) → (c ≡ ternary_node → ⊥) → Pair c
   rest_of h2 h3 =
-      let d : (leb pair_op c && ltb c choice_node) ≡ true = rw (lt-leb c 1 (omega arith), ne_eqb c not_node h2, ne_eqb c ternary_node h3) at e in
+      let d : (leb pair_op c && ltb c choice_node) ≡ true = rw (lt-leb c 1 (omega arith), ne_eqb c nay_node h2, ne_eqb c ternary_node h3) at e in
       (leb-true pair_op c (both_left _ (ltb c choice_node) d), ltb-true c choice_node (both_right (leb pair_op c) _ d))
 
-  past_not : (c ≡ not_node → ⊥) → pair_op ≤ c
+  past_not : (c ≡ nay_node → ⊥) → pair_op ≤ c
   past_not h2 = by_cases (ℕ_discrete c ternary_node) (λ d. omega arith) (λ d. (rest_of h2 d).0)
 
-  past_leaf : not_node ≤ c
-  past_leaf = by_cases (ℕ_discrete c not_node) (λ d. omega arith) (λ d. omega (arith, past_not d))
+  past_leaf : nay_node ≤ c
+  past_leaf = by_cases (ℕ_discrete c nay_node) (λ d. omega arith) (λ d. omega (arith, past_not d))
 
 -- what a sound place up to which a reader wrote knows
-module _ {P : Nodes} {p : ℕ} (s : Plain P p) where
+module _ {P : Pool} {p : ℕ} (s : Plain P p) where
   here : plain (code P p) ≡ true
   here = s.codes p (omega arith)
 
   pub last_in_lem : (code P p ≡ 0 → ⊥) → (code P p ≡ 1 → ⊥) → p - 1 < p
   last_in_lem e f = before_in s.sound (past_leaf (code P p) here e f)
 
-  pub left_in : (code P p ≡ 0 → ⊥) → (code P p ≡ 1 → ⊥) → (code P p ≡ not_node → ⊥) → field P p 0 < p
+  pub left_in : (code P p ≡ 0 → ⊥) → (code P p ≡ 1 → ⊥) → (code P p ≡ nay_node → ⊥) → field P p 0 < p
   left_in e f g = first_in s.sound (past_not (code P p) here e f g)
 
   pub mid_in : code P p ≡ ternary_node → field P p 1 < p
   mid_in e = second_in s.sound (omega arith)
 
-  pub binary : (code P p ≡ 0 → ⊥) → (code P p ≡ 1 → ⊥) → (code P p ≡ not_node → ⊥) → (code P p ≡ ternary_node → ⊥) → Pair (code P p)
+  pub binary : (code P p ≡ 0 → ⊥) → (code P p ≡ 1 → ⊥) → (code P p ≡ nay_node → ⊥) → (code P p ≡ ternary_node → ⊥) → Pair (code P p)
   binary e f g h = rest_of (code P p) here e f g h
 
   pub lower : {q x t : ℕ} → p ≡ t → x < p → q ≡ x → (q < t) × Plain P q
@@ -80,7 +80,7 @@ module _ {P : Nodes} {p : ℕ} (s : Plain P p) where
   tree_int : code P p ≡ 1 → T p ≡ int (value P p)
   tree_int e = rw (tree_leaf P p (omega arith), e)
 
-  tree_nay : code P p ≡ not_node → T p ≡ negate (T (p - 1))
+  tree_nay : code P p ≡ nay_node → T p ≡ nay (T (p - 1))
   tree_nay e = rw (tree_one P p (omega arith) (omega arith) (before_in s.sound (omega arith)), e)
 
   tree_cond : code P p ≡ ternary_node → T p ≡ cond (T (field P p 0)) (T (field P p 1)) (T (p - 1))
@@ -94,12 +94,12 @@ module _ {P : Nodes} {p : ℕ} (s : Plain P p) where
 
   -- what holds of each kind of node holds of this one
   pub of_each : (Q : Tree → Type 0) → (code P p ≡ 0 → Q var) → (code P p ≡ 1 → Q (int (value P p)))
-      → ((code P p ≡ 0 → ⊥) → (code P p ≡ 1 → ⊥) → (t : Tree) → Q (negate t)) → ((code P p ≡ 0 → ⊥) → (code P p ≡ 1 → ⊥) → (t u v : Tree) → Q (cond t u v))
+      → ((code P p ≡ 0 → ⊥) → (code P p ≡ 1 → ⊥) → (t : Tree) → Q (nay t)) → ((code P p ≡ 0 → ⊥) → (code P p ≡ 1 → ⊥) → (t u v : Tree) → Q (cond t u v))
       → ((code P p ≡ 0 → ⊥) → (code P p ≡ 1 → ⊥) → (op : Op) → op_code op ≡ code P p - pair_op → Pair (code P p) → (t u : Tree) → Q (bin op t u)) → Q (T p)
   of_each Q q0 q1 q2 q3 q4 =
       by_cases (ℕ_discrete (code P p) 0) (λ e. rw (tree_var e) (q0 e))
       (λ e. by_cases (ℕ_discrete (code P p) 1) (λ f. rw (tree_int f) (q1 f))
-      (λ f. by_cases (ℕ_discrete (code P p) not_node) (λ g. rw (tree_nay g) (q2 e f _))
+      (λ f. by_cases (ℕ_discrete (code P p) nay_node) (λ g. rw (tree_nay g) (q2 e f _))
       (λ g. by_cases (ℕ_discrete (code P p) ternary_node) (λ h. rw (tree_cond h) (q3 e f _ _ _))
       (λ h. let k = binary e f g h in rw (tree_bin k) (q4 e f (named k).op (code_is _ (named k).op (named k).is) k _ _)))))
 
@@ -122,12 +122,12 @@ unfolding is_rem op_code
 not_rem (cmp k) h = refl
 not_rem and h = refl
 not_rem or h = refl
-not_rem modulo h = absurd (h refl)
-not_rem divide h = refl
+not_rem rem h = absurd (h refl)
+not_rem div h = refl
 not_rem (calc k) h = refl
 
 -- the answers of `left_of`
-module _ {P : Nodes} {p : ℕ} (s : Plain P p) where
+module _ {P : Pool} {p : ℕ} (s : Plain P p) where
   pub left_count : code P p ≡ 0 → left.Count ≡ left_of (tree_of P p)
   unfolding left_of
   left_count e = rw (tree_var s e)
@@ -175,7 +175,7 @@ pub record IsThree (t s u w : Tree) : Type 0 where
   pub is : pack t ≡ three (pack s) (pack u) (pack w)
 
 -- the same at a place: l and m are the places in its fields, r the one before it
-module _ {P : Nodes} {p : ℕ} (s : Plain P p) where
+module _ {P : Pool} {p : ℕ} (s : Plain P p) where
   pub is_var : code P p ≡ 0 → IsLeaf (T s p) 0 0 0
   unfolding pack
   is_var e = record { is = rw (tree_var s e) }
@@ -184,7 +184,7 @@ module _ {P : Nodes} {p : ℕ} (s : Plain P p) where
   unfolding pack
   is_int e d = record { is = rw (tree_int s e, d) }
 
-  pub is_nay : {l : ℕ} → code P p ≡ not_node → l ≡ p - 1 → IsOne (T s p) (T s l) not_node 0 0
+  pub is_nay : {l : ℕ} → code P p ≡ nay_node → l ≡ p - 1 → IsOne (T s p) (T s l) nay_node 0 0
   unfolding pack
   is_nay e d = record { is = rw (tree_nay s e, d) }
 
@@ -257,26 +257,26 @@ pub size_three : {t s u w : Tree} → IsThree t s u w → packed_size t ≡ pack
 unfolding packed_size nodes
 size_three e = rw e.is
 
-pub past : {t : Tree} {k r : ℕ} {P Q : Nodes} → Packs t k P Q r → 0 < r
+pub past : {t : Tree} {k r : ℕ} {P Q : Pool} → Packs t k P Q r → 0 < r
 past {t} a = omega (arith, a.end, packed_pos t)
 
 -- and that it is stored
-pub done_leaf : {t : Tree} {k c m v r : ℕ} {P Q : Nodes} → IsLeaf t c m v → Q ≡ push P k c m 0 v → r ≡ k + 1 → Packs t k P Q r
+pub done_leaf : {t : Tree} {k c m v r : ℕ} {P Q : Pool} → IsLeaf t c m v → Q ≡ push P k c m 0 v → r ≡ k + 1 → Packs t k P Q r
 unfolding keep
 done_leaf e f g = record { end = omega (arith, g, size_leaf e); nodes = rw (e.is, f) }
 
-pub done_one : {t s : Tree} {k c m v n r : ℕ} {P Q R : Nodes} → IsOne t s c m v → Packs s k P Q n → R ≡ push Q n c m 0 v → r ≡ n + 1
+pub done_one : {t s : Tree} {k c m v n r : ℕ} {P Q R : Pool} → IsOne t s c m v → Packs s k P Q n → R ≡ push Q n c m 0 v → r ≡ n + 1
     → Packs t k P R r
 unfolding packed_size keep nodes
 done_one e a f g = record { end = omega (arith, a.end, size_one e); nodes = rw (e.is, f, a.nodes, a.end) }
 
-pub done_two : {t s u : Tree} {k c v b m n r : ℕ} {P Q R S : Nodes} → IsTwo t s u c v → Packs s k P Q m → Packs u m Q R n → b ≡ m - 1
+pub done_two : {t s u : Tree} {k c v b m n r : ℕ} {P Q R S : Pool} → IsTwo t s u c v → Packs s k P Q m → Packs u m Q R n → b ≡ m - 1
     → S ≡ push R n c b 0 v → r ≡ n + 1 → Packs t k P S r
 unfolding packed_size keep nodes
 done_two e a d h f g =
     record { end = omega (arith, a.end, d.end, size_two e); nodes = rw (e.is, f, d.nodes, d.end, a.nodes, h, a.end) }
 
-pub done_three : {t s u w : Tree} {k b d l m n r : ℕ} {P Q R S O : Nodes} → IsThree t s u w → Packs s k P Q m → Packs u m Q R l → Packs w l R S n
+pub done_three : {t s u w : Tree} {k b d l m n r : ℕ} {P Q R S O : Pool} → IsThree t s u w → Packs s k P Q m → Packs u m Q R l → Packs w l R S n
     → b ≡ m - 1 → d ≡ l - 1 → O ≡ push S n ternary_node b d 0 → r ≡ n + 1 → Packs t k P O r
 unfolding packed_size keep nodes
 done_three e x y z h j f g =
@@ -292,7 +292,7 @@ cond_least (number.Is v) (small.Is m) x y z = omega arith
 cond_least (number.Is v) small.Other x y z = omega arith
 cond_least number.Other q x y z = omega arith
 
-pub cond_room : {P : Nodes} {p l : ℕ} → Plain P p → code P p ≡ ternary_node → l ≡ field P p 0 → packed_size (tree_of P l) < packed_size (tree_of P p)
+pub cond_room : {P : Pool} {p l : ℕ} → Plain P p → code P p ≡ ternary_node → l ≡ field P p 0 → packed_size (tree_of P l) < packed_size (tree_of P p)
 unfolding packed_size pack
 cond_room {P} {p} s e d =
     rw (tree_cond s e, d)
@@ -300,11 +300,11 @@ cond_room {P} {p} s e d =
     (pack (tree_of P (p - 1))))
 
 -- what a call at an operand's place asks
-pub call : {P : Nodes} {p q x t : ℕ} {M : Type 0} → Plain P p → p ≡ t → x < p → q ≡ x → M → (q < t) × (Plain P q × M)
+pub call : {P : Pool} {p q x t : ℕ} {M : Type 0} → Plain P p → p ≡ t → x < p → q ≡ x → M → (q < t) × (Plain P q × M)
 call s e l d h = let w = lower s e l d in (w.0, (w.1, h))
 
 -- into arrays of zeros
-pub from_blank : {t : Tree} {Q : Nodes} {r : ℕ} → Packs t 0 (nodes_of (replicate 512 0) (replicate 1024 0) (replicate 512 0)) Q r
+pub from_blank : {t : Tree} {Q : Pool} {r : ℕ} → Packs t 0 (pool (replicate 512 0) (replicate 1024 0) (replicate 512 0)) Q r
     → (Q ≡ packed t) × (r ≡ packed_size t)
 unfolding packed
 from_blank {t} a = (a.nodes ∙ ap (keep (pack t) 0) blank_is, omega (arith, a.end))

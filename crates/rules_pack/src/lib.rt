@@ -1,7 +1,7 @@
 // Packs a rule: from the nodes that a reader leaves, which are each n, each integer and each operator, to fewer nodes that hold most of the
 // leaves in themselves.
 ghost use Rattle.std.specs.Prelude.{◌≡◌, ◌+◌, ◌-◌, ◌≤◌, ◌<◌, get_or};
-ghost use Rattle.rules.specs.Nodes.{nodes_of, tree_of};
+ghost use Rattle.rules.specs.Pool.{pool, tree_of};
 ghost use Rattle.rules.specs.Promise.{Plain};
 ghost use Rattle.rules.specs.Pack.{left_of, small_by, packed_size, packed};
 ghost use Rattle.rules_pack.specs.Private.{Packs, number_at};
@@ -36,21 +36,21 @@ fn small_of<'a>(codes: &'a [u8; 512], values: &'a [u64; 512], at: usize) -> Smal
 // Whether n or n % m is at a place.
 fn left_of<'a>(
     codes: &'a [u8; 512],
-    fields: &'a [u16; 1024],
+    places: &'a [u16; 1024],
     values: &'a [u64; 512],
     at: usize,
 ) -> Left
-    requires { Plain (nodes_of codes.now fields.now values.now) at }
-    ensures { result ≡ left_of (tree_of (nodes_of codes.now fields.now values.now) at) }
+    requires { Plain (pool codes.now places.now values.now) at }
+    ensures { result ≡ left_of (tree_of (pool codes.now places.now values.now) at) }
 {
     let code = codes[at];
     if code == node::N {
         return Left::Count;
     }
-    if code != node::PAIR_OP + node::MODULO {
+    if code != node::OP + node::MODULO {
         return Left::Other;
     }
-    let first = place(fields, at, 0);
+    let first = place(places, at, 0);
     if codes[first] != node::N {
         return Left::Other;
     }
@@ -72,45 +72,45 @@ fn before(k: usize) -> u16
 // Packs the tree at a place, its nodes from k on, and tells the place after the last.
 fn nodes<'a>(
     codes: &'a [u8; 512],
-    fields: &'a [u16; 1024],
+    places: &'a [u16; 1024],
     values: &'a [u64; 512],
     at: usize,
     heads: &mut [u8; 512],
-    cells: &mut [u16; 1024],
+    fields: &mut [u16; 1024],
     ints: &mut [u64; 512],
     k: usize,
 ) -> usize
-    requires plain { Plain (nodes_of codes.now fields.now values.now) at }
-    requires room { k + packed_size (tree_of (nodes_of codes.now fields.now values.now) at) ≤ 512 }
-    ensures { Packs (tree_of (nodes_of codes.now fields.now values.now) at) k
-        (nodes_of heads.old cells.old ints.old)
-        (nodes_of heads.new cells.new ints.new) result }
+    requires plain { Plain (pool codes.now places.now values.now) at }
+    requires room { k + packed_size (tree_of (pool codes.now places.now values.now) at) ≤ 512 }
+    ensures { Packs (tree_of (pool codes.now places.now values.now) at) k
+        (pool heads.old fields.old ints.old)
+        (pool heads.new fields.new ints.new) result }
 {
     let code = codes[at];
     if code == node::N {
-        put(heads, cells, ints, k, node::N, 0, 0, 0);
+        put(heads, fields, ints, k, node::N, 0, 0, 0);
         return k + 1;
     }
     if code == node::INTEGER {
-        put(heads, cells, ints, k, node::INTEGER, 0, 0, values[at]);
+        put(heads, fields, ints, k, node::INTEGER, 0, 0, values[at]);
         return k + 1;
     }
     if code == node::NOT {
-        let n = nodes(codes, fields, values, at - 1, heads, cells, ints, k);
-        put(heads, cells, ints, n, node::NOT, 0, 0, 0);
+        let n = nodes(codes, places, values, at - 1, heads, fields, ints, k);
+        put(heads, fields, ints, n, node::NOT, 0, 0, 0);
         return n + 1;
     }
-    let first = place(fields, at, 0);
+    let first = place(places, at, 0);
     if code == node::TERNARY {
-        let second = place(fields, at, 1);
+        let second = place(places, at, 1);
         let number = number_of(codes, values, second);
-        let m = nodes(codes, fields, values, first, heads, cells, ints, k);
+        let m = nodes(codes, places, values, first, heads, fields, ints, k);
         let Number::Is(v) = number else {
-            let l = nodes(codes, fields, values, second, heads, cells, ints, m);
-            let n = nodes(codes, fields, values, at - 1, heads, cells, ints, l);
+            let l = nodes(codes, places, values, second, heads, fields, ints, m);
+            let n = nodes(codes, places, values, at - 1, heads, fields, ints, l);
             put(
                 heads,
-                cells,
+                fields,
                 ints,
                 n,
                 node::TERNARY,
@@ -122,34 +122,34 @@ fn nodes<'a>(
         };
         let small = small_of(codes, values, at - 1);
         let Small::Is(w) = small else {
-            let n = nodes(codes, fields, values, at - 1, heads, cells, ints, m);
-            put(heads, cells, ints, n, node::CHOICE, before(m), 0, v);
+            let n = nodes(codes, places, values, at - 1, heads, fields, ints, m);
+            put(heads, fields, ints, n, node::CHOICE, before(m), 0, v);
             return n + 1;
         };
-        put(heads, cells, ints, m, node::PICK, w, 0, v);
+        put(heads, fields, ints, m, node::PICK, w, 0, v);
         return m + 1;
     }
     let number = number_of(codes, values, at - 1);
     let Number::Is(v) = number else {
-        let m = nodes(codes, fields, values, first, heads, cells, ints, k);
-        let n = nodes(codes, fields, values, at - 1, heads, cells, ints, m);
-        put(heads, cells, ints, n, code, before(m), 0, 0);
+        let m = nodes(codes, places, values, first, heads, fields, ints, k);
+        let n = nodes(codes, places, values, at - 1, heads, fields, ints, m);
+        put(heads, fields, ints, n, code, before(m), 0, 0);
         return n + 1;
     };
-    let left = left_of(codes, fields, values, first);
-    let op = code - node::PAIR_OP;
+    let left = left_of(codes, places, values, first);
+    let op = code - node::OP;
     match left {
         Left::Count => {
-            put(heads, cells, ints, k, node::N_OP + op, 0, 0, v);
+            put(heads, fields, ints, k, node::N_OP + op, 0, 0, v);
             k + 1
         }
         Left::Rest(m) => {
-            put(heads, cells, ints, k, node::REST_OP + op, m, 0, v);
+            put(heads, fields, ints, k, node::REST_OP + op, m, 0, v);
             k + 1
         }
         Left::Other => {
-            let n = nodes(codes, fields, values, first, heads, cells, ints, k);
-            put(heads, cells, ints, n, node::VALUE_OP + op, 0, 0, v);
+            let n = nodes(codes, places, values, first, heads, fields, ints, k);
+            put(heads, fields, ints, n, node::VALUE_OP + op, 0, 0, v);
             n + 1
         }
     }
@@ -158,21 +158,21 @@ fn nodes<'a>(
 // Packs the rule that a reader left, whose root is at a place; how many nodes it has then.
 pub fn pack<'a>(
     codes: &'a [u8; 512],
-    fields: &'a [u16; 1024],
+    places: &'a [u16; 1024],
     values: &'a [u64; 512],
     root: usize,
     heads: &mut [u8; 512],
-    cells: &mut [u16; 1024],
+    fields: &mut [u16; 1024],
     ints: &mut [u64; 512],
 ) -> usize
-    requires plain { Plain (nodes_of codes.now fields.now values.now) root }
-    requires room { packed_size (tree_of (nodes_of codes.now fields.now values.now) root) ≤ 512 }
-    ensures nodes { nodes_of heads.new cells.new ints.new ≡
-        packed (tree_of (nodes_of codes.now fields.now values.now) root) }
-    ensures count { result ≡ packed_size (tree_of (nodes_of codes.now fields.now values.now) root) }
+    requires plain { Plain (pool codes.now places.now values.now) root }
+    requires room { packed_size (tree_of (pool codes.now places.now values.now) root) ≤ 512 }
+    ensures nodes { pool heads.new fields.new ints.new ≡
+        packed (tree_of (pool codes.now places.now values.now) root) }
+    ensures count { result ≡ packed_size (tree_of (pool codes.now places.now values.now) root) }
 {
     *heads = [0u8; 512];
-    *cells = [0u16; 1024];
+    *fields = [0u16; 1024];
     *ints = [0u64; 512];
-    nodes(codes, fields, values, root, heads, cells, ints, 0)
+    nodes(codes, places, values, root, heads, fields, ints, 0)
 }

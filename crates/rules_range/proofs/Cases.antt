@@ -1,4 +1,4 @@
--- Rules as nodes, computed from the definitions (the rules of SPEC 17.1 are in the table of crate `starred`): the range, whether it fits a number, and the value at 0, 1 and 2. Assumes nothing.
+-- Rules in pools, computed from the definitions (document 01's starred rules are in the table of crate `starred`): the range, whether it fits a number, and the value at 0, 1 and 2. Assumes nothing.
 use Prim.Native.Nat.{ℕ, ◌+◌}
 use mathlib.Core.Path.{◌≡◌, refl}
 use mathlib.Core.List.{List, [], ◌∷◌, map}
@@ -14,34 +14,34 @@ use Rattle.rules.specs.declared.Fit.TheVariants.{Yes, No}
 use Rattle.rules.specs.Value.{calculated, binary, negated, chosen, truth_v, eval_tree}
 use Rattle.rules.specs.Range.{kept, op_range, bin_range, cond_range, not_range, rate_tree, fits_range}
 use Rattle.rules.specs.Operator.{op_at, op_of}
-use Rattle.rules.specs.Nodes.{Nodes, nodes_of, tree_at, tree_of, operands_to, operands, all_below, operands_below, member, distinct, shaped, is_tree, n_op, rest_op, not_node, pick_node, value_op, pair_op, choice_node, ternary_node}
+use Rattle.rules.specs.Pool.{Pool, pool, tree_at, tree_of, operands_to, operands, all_below, used, member, distinct, shaped, is_tree, n_op, rest_op, nay_node, pick_node, value_op, pair_op, choice_node, ternary_node}
 use Rattle.rules.specs.Answer.{resolved_of, rated_of, fit_of}
 
 -- a node alone, with m in its first field and the value v, and such a node over n
-abbrev alone : ℕ → ℕ → ℕ → Nodes × ℕ × ℕ
-alone c m v = (nodes_of (c ∷ []) (m ∷ 0 ∷ []) (v ∷ []), 1, 0)
+abbrev alone : ℕ → ℕ → ℕ → Pool × ℕ × ℕ
+alone c m v = (pool (c ∷ []) (m ∷ 0 ∷ []) (v ∷ []), 1, 0)
 
-abbrev over : ℕ → ℕ → ℕ → Nodes × ℕ × ℕ
-over c m v = (nodes_of (0 ∷ c ∷ []) (0 ∷ 0 ∷ m ∷ 0 ∷ []) (0 ∷ v ∷ []), 2, 1)
+abbrev over : ℕ → ℕ → ℕ → Pool × ℕ × ℕ
+over c m v = (pool (0 ∷ c ∷ []) (0 ∷ 0 ∷ m ∷ 0 ∷ []) (0 ∷ v ∷ []), 2, 1)
 
 -- one over n and the integer 5, and over 7 and n
-abbrev count_first : ℕ → ℕ → Nodes × ℕ × ℕ
-count_first c v = (nodes_of (0 ∷ 1 ∷ c ∷ []) (0 ∷ 0 ∷ 0 ∷ 0 ∷ 0 ∷ 0 ∷ []) (0 ∷ 5 ∷ v ∷ []), 3, 2)
+abbrev count_first : ℕ → ℕ → Pool × ℕ × ℕ
+count_first c v = (pool (0 ∷ 1 ∷ c ∷ []) (0 ∷ 0 ∷ 0 ∷ 0 ∷ 0 ∷ 0 ∷ []) (0 ∷ 5 ∷ v ∷ []), 3, 2)
 
-abbrev integer_first : ℕ → Nodes × ℕ × ℕ
-integer_first c = (nodes_of (1 ∷ 0 ∷ c ∷ []) (0 ∷ 0 ∷ 0 ∷ 0 ∷ 0 ∷ 0 ∷ []) (7 ∷ 0 ∷ 0 ∷ []), 3, 2)
+abbrev integer_first : ℕ → Pool × ℕ × ℕ
+integer_first c = (pool (1 ∷ 0 ∷ c ∷ []) (0 ∷ 0 ∷ 0 ∷ 0 ∷ 0 ∷ 0 ∷ []) (7 ∷ 0 ∷ 0 ∷ []), 3, 2)
 
 -- n % (n ? 5 : 2), and 1 && 1 % 0, as a reader leaves them
-abbrev choice : Nodes × ℕ × ℕ
+abbrev choice : Pool × ℕ × ℕ
 choice =
-    (nodes_of (0 ∷ 0 ∷ 1 ∷ 1 ∷ ternary_node ∷ (pair_op + 8) ∷ []) (0 ∷ 0 ∷ 0 ∷ 0 ∷ 0 ∷ 0 ∷ 0 ∷ 0 ∷ 1 ∷ 2 ∷ 0 ∷ 0 ∷ []) (0 ∷ 0 ∷ 5 ∷ 2 ∷ []), 6, 5)
+    (pool (0 ∷ 0 ∷ 1 ∷ 1 ∷ ternary_node ∷ (pair_op + 8) ∷ []) (0 ∷ 0 ∷ 0 ∷ 0 ∷ 0 ∷ 0 ∷ 0 ∷ 0 ∷ 1 ∷ 2 ∷ 0 ∷ 0 ∷ []) (0 ∷ 0 ∷ 5 ∷ 2 ∷ []), 6, 5)
 
-abbrev reached : Nodes × ℕ × ℕ
-reached = (nodes_of (1 ∷ 1 ∷ 1 ∷ (pair_op + 8) ∷ (pair_op + 6) ∷ []) (0 ∷ 0 ∷ 0 ∷ 0 ∷ 0 ∷ 0 ∷ 1 ∷ 0 ∷ 0 ∷ 0 ∷ []) (1 ∷ 1 ∷ 0 ∷ []), 5, 4)
+abbrev reached : Pool × ℕ × ℕ
+reached = (pool (1 ∷ 1 ∷ 1 ∷ (pair_op + 8) ∷ (pair_op + 6) ∷ []) (0 ∷ 0 ∷ 0 ∷ 0 ∷ 0 ∷ 0 ∷ 1 ∷ 0 ∷ 0 ∷ 0 ∷ []) (1 ∷ 1 ∷ 0 ∷ []), 5, 4)
 
--- the nodes, their count and the root; the range; a number, and whether it fits it; the values at 0, 1 and 2
+-- the pool, its count and its root; the range; a number, and whether it fits it; the values at 0, 1 and 2
 abbrev Row : Type 0
-Row = (Nodes × ℕ × ℕ) × Rated × (ℕ × Fit) × Resolved × Resolved × Resolved
+Row = (Pool × ℕ × ℕ) × Rated × (ℕ × Fit) × Resolved × Resolved × Resolved
 
 abbrev rows : List Row
 rows =
@@ -62,7 +62,7 @@ rows =
     ∷ (alone rest_op 0 0, Unrated, (2, No), resolved.ZeroModulus, resolved.ZeroModulus, resolved.ZeroModulus)
     ∷ (alone (rest_op + 8) 9 2, Range 0 1, (2, Yes), Form 0, Form 1, Form 0)
     -- over n: !; ? 3 : 8; % 2
-    ∷ (over not_node 8 3, Range 0 1, (2, Yes), Form 1, Form 0, Form 0)
+    ∷ (over nay_node 8 3, Range 0 1, (2, Yes), Form 1, Form 0, Form 0)
     ∷ (over pick_node 8 3, Range 3 8, (9, Yes), Form 8, Form 3, Form 3)
     ∷ (over (value_op + 8) 8 2, Range 0 1, (2, Yes), Form 0, Form 1, Form 0)
     -- n < 5; n ? 3 : 5; 7 % n
@@ -90,6 +90,6 @@ abbrev computed : Row → Row
 computed ((P, c, r), _, (k, _), _, _, _) = ((P, c, r), rated_of P c r, (k, fit_of P c r k), resolved_of P c r 0, resolved_of P c r 1, resolved_of P c r 2)
 
 pub rows_hold : map computed rows ≡ rows
-unfolding resolved_of rated_of fit_of is_tree shaped operands_below operands operands_to all_below distinct member tree_of tree_at op_of op_at
+unfolding resolved_of rated_of fit_of is_tree shaped used operands operands_to all_below distinct member tree_of tree_at op_of op_at
     eval_tree binary calculated negated chosen truth_v rate_tree bin_range op_range kept cond_range not_range fits_range
 rows_hold = refl

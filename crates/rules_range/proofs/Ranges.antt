@@ -1,4 +1,4 @@
--- The answers of a rating at a place of the nodes, by its code and its operands' ranges.
+-- The answers of a rating at a place of a pool, by its code and its operands' ranges.
 use mathlib.Core.Path.{◌≡◌, refl, sym, ◌∙◌}
 use mathlib.Core.Bool.{Bool, true}
 use mathlib.Core.List.{List}
@@ -12,10 +12,10 @@ use lib.Dec.{ltb, leb, eqb}
 use borrow.Author.Tests.{ltb-true, lt-ltb, le-ltb, le-leb, lt-leb, eq-eqb, ne_eqb}
 use Rattle.rules.specs.declared.Rating.{Rating}
 use Rattle.rules.specs.declared.Rating.TheVariants.{Range, Unrated}
-use Rattle.rules.specs.Tree.{Op, modulo, var, int, bin, cond}
+use Rattle.rules.specs.Tree.{Op, rem, var, int, bin, cond}
 use Rattle.rules.specs.Operator.{op_of, op_at}
 use Rattle.rules.specs.Range.{full_range, rate_tree, op_range, not_range, bin_range, cond_range}
-use Rattle.rules.specs.Nodes.{Nodes, code, field, value, leaf, one, two, tree_of, n_op, rest_op, not_node, value_op, pair_op, choice_node, ternary_node}
+use Rattle.rules.specs.Pool.{Pool, code, field, value, leaf, one, two, tree_of, n_op, rest_op, nay_node, value_op, pair_op, choice_node, ternary_node}
 use Rattle.rules.proofs.Operators.{split, named, op_at_lem}
 use Rattle.rules.proofs.InRange.{ordered}
 use Rattle.rules_operators.proofs.Operators.{low_cmp, is_div}
@@ -126,7 +126,7 @@ any_condition l h (Range i j) (Range k m) e = rw (range_of_lem l h e)
 any_condition l h (Range i j) Unrated e = rw (range_of_lem l h e)
 any_condition l h Unrated y e = rw (range_of_lem l h e)
 
-module _ (P : Nodes) (p : ℕ) where
+module _ (P : Pool) (p : ℕ) where
   abbrev ra : ℕ → Rating
   ra q = rate_tree (tree_of P q)
 
@@ -151,7 +151,7 @@ module _ (P : Nodes) (p : ℕ) where
         let k = named (code P p - n_op) (omega arith) in
         rw (tree_leaf P p (omega arith), leaf_op (code P p) (field P p 0) (value P p) k.is h l, ← w) (e.is k.op k.is)
 
-    pub rate_rest : {x r : Rating} {m : ℕ} → rest_op ≤ code P p → code P p < not_node → m ≡ field P p 0 → x ≡ bin_range modulo Count (Range m m)
+    pub rate_rest : {x r : Rating} {m : ℕ} → rest_op ≤ code P p → code P p < nay_node → m ≡ field P p 0 → x ≡ bin_range rem Count (Range m m)
         → Joins (code P p - rest_op) x v r → r ≡ ra p
     unfolding rate_tree
     rate_rest h l d f e =
@@ -159,24 +159,24 @@ module _ (P : Nodes) (p : ℕ) where
         rw (tree_leaf P p l, leaf_rest (code P p) (field P p 0) (value P p) k.is h, ← w, ← d, ← f) (e.is k.op k.is)
 
   module _ {b : Rating} (a : p - 1 < p) (g : b ≡ ra (p - 1)) where
-    pub rate_nay : {r : Rating} → code P p ≡ not_node → r ≡ not_range b → r ≡ ra p
+    pub rate_nay : {r : Rating} → code P p ≡ nay_node → r ≡ not_range b → r ≡ ra p
     unfolding rate_tree
     rate_nay h e = rw (tree_one P p (omega arith) (omega arith) a, h, ← g) e
 
     -- an operand that has none
-    pub rate_none : not_node ≤ code P p → code P p < pair_op → b ≡ Unrated → b ≡ ra p
+    pub rate_none : nay_node ≤ code P p → code P p < pair_op → b ≡ Unrated → b ≡ ra p
     unfolding rate_tree not_range cond_range bin_range
     rate_none h l e =
         let u : Unrated ≡ ra (p - 1) = sym e ∙ g in
-        e ∙ split (eqb (code P p) not_node) (λ i. rw (tree_one P p h l a, one, i, ← u))
+        e ∙ split (eqb (code P p) nay_node) (λ i. rw (tree_one P p h l a, one, i, ← u))
         (λ i. split (ltb (code P p) value_op)
         (λ j. rw (tree_one P p h l a, one, i, j, ← u))
         (λ j. rw (tree_one P p h l a, one, i, j, (named (code P p - value_op) (omega arith)).is, ← u)))
 
-    pub rate_picked : {v m r : Rating} → not_node ≤ code P p → (code P p ≡ not_node → ⊥) → code P p < value_op → v ≡ Value → m ≡ Small → r ≡ cond_range b v m → r ≡ ra p
+    pub rate_picked : {v m r : Rating} → nay_node ≤ code P p → (code P p ≡ nay_node → ⊥) → code P p < value_op → v ≡ Value → m ≡ Small → r ≡ cond_range b v m → r ≡ ra p
     unfolding rate_tree
     rate_picked h d l w f e =
-        rw (tree_one P p h (omega arith) a, one, ne_eqb (code P p) not_node d, lt-ltb (code P p) value_op l, ← g, ← w, ← f) e
+        rw (tree_one P p h (omega arith) a, one, ne_eqb (code P p) nay_node d, lt-ltb (code P p) value_op l, ← g, ← w, ← f) e
 
     pub rate_one : {v r : Rating} → value_op ≤ code P p → code P p < pair_op → v ≡ Value → Joins (code P p - value_op) b v r → r ≡ ra p
     unfolding rate_tree
@@ -211,15 +211,15 @@ module _ (P : Nodes) (p : ℕ) where
       rate_three h s j e = rw (tree_three P p h a f s, ← g, ← i, ← j) e
 
 -- what was given at a place that is this one
-pub moved : (P : Nodes) {l q : ℕ} {r : Rating} → r ≡ rate_tree (tree_of P l) → l ≡ q → r ≡ rate_tree (tree_of P q)
+pub moved : (P : Pool) {l q : ℕ} {r : Rating} → r ≡ rate_tree (tree_of P l) → l ≡ q → r ≡ rate_tree (tree_of P q)
 moved P g e = rw (← e) g
 
 -- up a run, node by node
 pub on_run : {codes : List ℕ} {p e q : ℕ} → Run codes p e q → q + 1 ≤ p → Run codes p e (q + 1)
 on_run r h = record { below = h; all = λ i j k. r.all i (omega arith) k }
 
-pub lift_on : {P : Nodes} {q r l h k m : ℕ} → r - 1 ≡ q → from_to l h ≡ rate_tree (tree_of P q) → Lifts P (r - 1) r l h k m → from_to k m ≡ rate_tree (tree_of P r)
+pub lift_on : {P : Pool} {q r l h k m : ℕ} → r - 1 ≡ q → from_to l h ≡ rate_tree (tree_of P q) → Lifts P (r - 1) r l h k m → from_to k m ≡ rate_tree (tree_of P r)
 lift_on e g l = l.is (rw e g)
 
-pub ended : (P : Nodes) {p q : ℕ} {r : Rating} → q ≤ p → p ≤ q → r ≡ rate_tree (tree_of P q) → r ≡ rate_tree (tree_of P p)
+pub ended : (P : Pool) {p q : ℕ} {r : Rating} → q ≤ p → p ≤ q → r ≡ rate_tree (tree_of P q) → r ≡ rate_tree (tree_of P p)
 ended P {p} {q} h k g = let e : q ≡ p = omega arith in rw (← e) g

@@ -6,7 +6,7 @@ use Rattle.rules.specs.declared.Rating.TheVariants.{Range, Unrated}
 use Rattle.rules.specs.Tree.{Op, calc, Calc}
 use Rattle.rules.specs.Operator.{op_of}
 use Rattle.rules.specs.Range.{pick_r, op_range, bin_range, rate_tree}
-use Rattle.rules.specs.Nodes.{Nodes, tree_of}
+use Rattle.rules.specs.Pool.{Pool, tree_of}
 
 -- operator number i on a left operand from k to h and a right one from l to m
 pub record Ranges (i k h l m : ℕ) (r : Rating) : Type 0 where
@@ -25,5 +25,5 @@ abbrev pub from_to : ℕ → ℕ → Rating
 from_to l h = pick_r (leb l h) (Range l h) Unrated
 
 -- where l and h are the range of the tree at p, k and m are that of the tree at q
-pub record Lifts (P : Nodes) (p q l h k m : ℕ) : Type 0 where
+pub record Lifts (P : Pool) (p q l h k m : ℕ) : Type 0 where
   pub is : from_to l h ≡ rate_tree (tree_of P p) → from_to k m ≡ rate_tree (tree_of P q)

@@ -1,9 +1,9 @@
 // The range of a plural rule, by the range table, and whether its forms are all below a number. The nodes are those of `rules`.
 ghost use Rattle.std.specs.Prelude.{◌≡◌, ◌+◌, ◌-◌, ◌<◌, ◌≤◌, ◌*◌, ◌^◌, min, max, get_or, ltb};
 ghost use Rattle.rules.specs.declared.Rating.TheVariants as rating;
-ghost use Rattle.rules.specs.Tree.{modulo};
+ghost use Rattle.rules.specs.Tree.{rem};
 ghost use Rattle.rules.specs.Range.{full_range, bin_range, cond_range, rate_tree};
-ghost use Rattle.rules.specs.Nodes.{nodes_of, tree_of, not_node, pair_op};
+ghost use Rattle.rules.specs.Pool.{pool, tree_of, nay_node, pair_op};
 ghost use Rattle.rules.specs.Promise.{Sound};
 ghost use Rattle.rules.specs.Answer.{rated_of, fit_of};
 ghost use Rattle.rules_range.specs.Private.{Calculates, Ranges, Joins, from_to, Lifts};
@@ -134,16 +134,16 @@ fn either(k: u64, h: u64, l: u64, high: &mut u64) -> u64
 }
 
 // The integer in the first field of the node at a place.
-fn small<'a>(fields: &'a [u16; 1024], at: usize) -> u64
+fn small<'a>(places: &'a [u16; 1024], at: usize) -> u64
     requires { at < 512 }
-    ensures { result ≡ get_or fields.now (2 * at + 0) 0 }
+    ensures { result ≡ get_or places.now (2 * at + 0) 0 }
 {
-    field(fields, at, 0) as u64
+    field(places, at, 0) as u64
 }
 
 // The range of n % m.
 fn rest(m: u64, high: &mut u64) -> u64
-    ensures { from_to result high.new ≡ bin_range modulo full_range (rating.Range m m) }
+    ensures { from_to result high.new ≡ bin_range rem full_range (rating.Range m m) }
 {
     *high = m;
     binary(node::MODULO, 0, LARGEST, m, high)
@@ -152,14 +152,14 @@ fn rest(m: u64, high: &mut u64) -> u64
 // The range of a node that has no operand.
 fn leaf<'a>(
     codes: &'a [u8; 512],
-    fields: &'a [u16; 1024],
+    places: &'a [u16; 1024],
     values: &'a [u64; 512],
     at: usize,
     high: &mut u64,
 ) -> u64
-    requires sound { Sound (nodes_of codes.now fields.now values.now) at }
-    requires leaf { get_or codes.now at 0 < not_node }
-    ensures { from_to result high.new ≡ rate_tree (tree_of (nodes_of codes.now fields.now values.now) at) }
+    requires sound { Sound (pool codes.now places.now values.now) at }
+    requires leaf { get_or codes.now at 0 < nay_node }
+    ensures { from_to result high.new ≡ rate_tree (tree_of (pool codes.now places.now values.now) at) }
 {
     let code = codes[at];
     if code == node::N {
@@ -174,22 +174,22 @@ fn leaf<'a>(
         return binary(code - node::N_OP, 0, LARGEST, v, high);
     }
     let mut h = 0;
-    let k = rest(small(fields, at), &mut h);
+    let k = rest(small(places, at), &mut h);
     binary(code - node::REST_OP, k, h, v, high)
 }
 
 // The range of a node with one operand, by its operand's.
 fn one<'a>(
     codes: &'a [u8; 512],
-    fields: &'a [u16; 1024],
+    places: &'a [u16; 1024],
     values: &'a [u64; 512],
     at: usize,
     low: u64,
     high: &mut u64,
 ) -> u64
-    requires sound { Sound (nodes_of codes.now fields.now values.now) at }
-    requires one { (not_node ≤ get_or codes.now at 0) × (get_or codes.now at 0 < pair_op) }
-    ensures { Lifts (nodes_of codes.now fields.now values.now) (at - 1) at
+    requires sound { Sound (pool codes.now places.now values.now) at }
+    requires one { (nay_node ≤ get_or codes.now at 0) × (get_or codes.now at 0 < pair_op) }
+    ensures { Lifts (pool codes.now places.now values.now) (at - 1) at
         low high.old result high.new }
 {
     let h = *high;
@@ -202,7 +202,7 @@ fn one<'a>(
     }
     let v = values[at];
     if code < node::VALUE_OP {
-        let m = small(fields, at);
+        let m = small(places, at);
         *high = m;
         return either(v, v, m, high);
     }
@@ -214,25 +214,25 @@ fn one<'a>(
 #[cycle(above_rate)]
 fn above<'a>(
     codes: &'a [u8; 512],
-    fields: &'a [u16; 1024],
+    places: &'a [u16; 1024],
     values: &'a [u64; 512],
     at: usize,
     low: u64,
     high: &mut u64,
 ) -> u64
-    requires sound { Sound (nodes_of codes.now fields.now values.now) at }
-    requires above { not_node ≤ get_or codes.now at 0 }
-    ensures { Lifts (nodes_of codes.now fields.now values.now) (at - 1) at
+    requires sound { Sound (pool codes.now places.now values.now) at }
+    requires above { nay_node ≤ get_or codes.now at 0 }
+    ensures { Lifts (pool codes.now places.now values.now) (at - 1) at
         low high.old result high.new }
 {
     let code = codes[at];
-    if code < node::PAIR_OP {
-        return one(codes, fields, values, at, low, high);
+    if code < node::OP {
+        return one(codes, places, values, at, low, high);
     }
     let mut h = 0;
-    let first = rate(codes, fields, values, place(fields, at, 0), &mut h);
+    let first = rate(codes, places, values, place(places, at, 0), &mut h);
     if code < node::CHOICE {
-        return binary(code - node::PAIR_OP, first, h, low, high);
+        return binary(code - node::OP, first, h, low, high);
     }
     if h < first {
         return ends(1, 0, high);
@@ -241,7 +241,7 @@ fn above<'a>(
         let v = values[at];
         return either(v, v, low, high);
     }
-    let second = rate(codes, fields, values, place(fields, at, 1), &mut h);
+    let second = rate(codes, places, values, place(places, at, 1), &mut h);
     either(second, h, low, high)
 }
 
@@ -252,19 +252,19 @@ fn above<'a>(
 #[cycle(above_rate)]
 fn rate<'a>(
     codes: &'a [u8; 512],
-    fields: &'a [u16; 1024],
+    places: &'a [u16; 1024],
     values: &'a [u64; 512],
     at: usize,
     high: &mut u64,
 ) -> u64
-    requires { Sound (nodes_of codes.now fields.now values.now) at }
-    ensures { from_to result high.new ≡ rate_tree (tree_of (nodes_of codes.now fields.now values.now) at) }
+    requires { Sound (pool codes.now places.now values.now) at }
+    ensures { from_to result high.new ≡ rate_tree (tree_of (pool codes.now places.now values.now) at) }
 {
     let mut p = base(codes, at, CODES);
-    let mut low = leaf(codes, fields, values, p, high);
+    let mut low = leaf(codes, places, values, p, high);
     while p < at {
         p += 1;
-        low = above(codes, fields, values, p, low, high);
+        low = above(codes, places, values, p, low, high);
     }
     low
 }
@@ -272,16 +272,16 @@ fn rate<'a>(
 // The range of a rule.
 pub fn rating_of<'a>(
     codes: &'a [u8; 512],
-    fields: &'a [u16; 1024],
+    places: &'a [u16; 1024],
     values: &'a [u64; 512],
     count: usize,
     root: usize,
 ) -> Rated
-    ensures { result ≡ rated_of (nodes_of codes.now fields.now values.now) count root }
+    ensures { result ≡ rated_of (pool codes.now places.now values.now) count root }
 {
-    if rules_tree::is_tree(codes, fields, count, root) {
+    if rules_tree::is_tree(codes, places, count, root) {
         let mut hi = 0;
-        let lo = rate(codes, fields, values, root, &mut hi);
+        let lo = rate(codes, places, values, root, &mut hi);
         if hi < lo {
             return Rated::Unrated;
         }
@@ -293,15 +293,15 @@ pub fn rating_of<'a>(
 // Whether a rule fits k: it is rated, and its highest is below k.
 pub fn fits<'a>(
     codes: &'a [u8; 512],
-    fields: &'a [u16; 1024],
+    places: &'a [u16; 1024],
     values: &'a [u64; 512],
     count: usize,
     root: usize,
     k: u64,
 ) -> Fit
-    ensures { result ≡ fit_of (nodes_of codes.now fields.now values.now) count root k }
+    ensures { result ≡ fit_of (pool codes.now places.now values.now) count root k }
 {
-    match rating_of(codes, fields, values, count, root) {
+    match rating_of(codes, places, values, count, root) {
         Rated::Range(_, hi) => if hi < k { Fit::Yes } else { Fit::No },
         Rated::Unrated => Fit::No,
         Rated::NoTree => Fit::NoTree,

@@ -1,19 +1,19 @@
--- Spans, computed from the definition: the figures of n%3 over 0 to 9, which the program `forms` prints (SPEC 13), and where forms above 15 and a zero divisor
+-- Spans, computed from the definition: the figures, as document 02 prints them for n%3 over 0 to 9, and where forms above 15 and a zero divisor
 -- fall. Assumes nothing.
 use Prim.Native.Nat.{ℕ}
 use mathlib.Core.Path.{◌≡◌, refl}
 use mathlib.Core.Bool.{Bool, true, false}
 use mathlib.Core.List.{List, [], ◌∷◌, map}
-use Rattle.rules.specs.Tree.{Tree, var, int, bin, modulo}
+use Rattle.rules.specs.Tree.{Tree, var, int, bin, rem}
 use Rattle.rules.specs.Value.{eval_tree, binary}
 use Rattle.rules_span.specs.Span.{line_of, bump, tallied, is_span}
 
 -- a rule, the first count, how many; the figures
 abbrev rows : List ((Tree × ℕ × ℕ) × List ℕ)
 rows =
-    ((bin modulo var (int 3), 0, 10), 4 ∷ 3 ∷ 3 ∷ 0 ∷ 0 ∷ 0 ∷ 0 ∷ 0 ∷ 0 ∷ 0 ∷ 0 ∷ 0 ∷ 0 ∷ 0 ∷ 0 ∷ 0 ∷ 0 ∷ 0 ∷ [])
+    ((bin rem var (int 3), 0, 10), 4 ∷ 3 ∷ 3 ∷ 0 ∷ 0 ∷ 0 ∷ 0 ∷ 0 ∷ 0 ∷ 0 ∷ 0 ∷ 0 ∷ 0 ∷ 0 ∷ 0 ∷ 0 ∷ 0 ∷ 0 ∷ [])
     ∷ ((var, 14, 5), 0 ∷ 0 ∷ 0 ∷ 0 ∷ 0 ∷ 0 ∷ 0 ∷ 0 ∷ 0 ∷ 0 ∷ 0 ∷ 0 ∷ 0 ∷ 0 ∷ 1 ∷ 1 ∷ 3 ∷ 0 ∷ [])
-    ∷ ((bin modulo (int 5) var, 0, 4), 1 ∷ 1 ∷ 1 ∷ 0 ∷ 0 ∷ 0 ∷ 0 ∷ 0 ∷ 0 ∷ 0 ∷ 0 ∷ 0 ∷ 0 ∷ 0 ∷ 0 ∷ 0 ∷ 0 ∷ 1 ∷ [])
+    ∷ ((bin rem (int 5) var, 0, 4), 1 ∷ 1 ∷ 1 ∷ 0 ∷ 0 ∷ 0 ∷ 0 ∷ 0 ∷ 0 ∷ 0 ∷ 0 ∷ 0 ∷ 0 ∷ 0 ∷ 0 ∷ 0 ∷ 0 ∷ 1 ∷ [])
     ∷ ((var, 0xffffffffffffffff, 1), 0 ∷ 0 ∷ 0 ∷ 0 ∷ 0 ∷ 0 ∷ 0 ∷ 0 ∷ 0 ∷ 0 ∷ 0 ∷ 0 ∷ 0 ∷ 0 ∷ 0 ∷ 0 ∷ 1 ∷ 0 ∷ [])
     ∷ []
 

@@ -13,7 +13,7 @@ use Rattle.rules.specs.declared.Value.{Value}
 use Rattle.rules.specs.declared.Value.TheVariants as value
 use Rattle.rules.specs.Tree.{Tree}
 use Rattle.rules.specs.Value.{eval_tree, truth}
-use Rattle.rules.specs.Nodes.{Nodes, tree_of, is_tree}
+use Rattle.rules.specs.Pool.{Pool, tree_of, is_tree}
 use Rattle.rules_span.specs.Span.{line_of, no_figures, bump, tallied, falls, total, is_span, answer, tally_of, figures_in, figures_of}
 use Rattle.rules_span.specs.declared.Counting.{Counting}
 use Rattle.rules_span.specs.declared.Counting.TheVariants.{Counted, BadSpan, NoTree}
@@ -101,7 +101,7 @@ module _ (t : Tree) (a : ℕ) where
       g ∙ rw (e, f, d, z) refl
 
 -- what a span answers
-module _ (P : Nodes) (nodes root a b : ℕ) where
+module _ (P : Pool) (nodes root a b : ℕ) where
   pub no_tree : is_tree P nodes root ≡ false → (NoTree ≡ tally_of P nodes root a b) × (no_figures ≡ figures_of P nodes root a b)
   unfolding figures_of
   no_tree e = rw (tally_of, e) (refl, refl)
@@ -132,7 +132,7 @@ module _ (P : Nodes) (nodes root a b : ℕ) where
       yes : is_span a b ≡ true
       yes = rw (le-leb a b h, le-leb (b - a) 999999 l)
 
-  -- SPEC 13: the figures add up to b - a + 1
+  -- document 02: "the figures add up to b-a+1"
   pub figures_add_up : tally_of P nodes root a b ≡ Counted → total (figures_of P nodes root a b) ≡ b - a + 1
   unfolding figures_of
   figures_add_up e = rw e (adds_up (tree_of P root) a (b - a + 1))

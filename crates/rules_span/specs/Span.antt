@@ -1,5 +1,5 @@
--- How often each form occurs over a span of counts. SPEC 13: how many fall on each form 0 to 15, how many on forms above, and how many
--- meet a remainder or quotient by zero. 18 figures, in this order.
+-- How often each form occurs over a span of counts. SPEC 13: "report how many fall on each form 0 to 15, how many above, and how many
+-- meet a zero remainder". 18 figures, in this order.
 use Rattle.std.specs.Prelude.{ℕ, zero, suc, ◌+◌, ◌-◌, Bool, true, false, ◌&&◌, List, [], ◌∷◌, get_or, set, replicate, leb, ltb, eqb}
 use Rattle.refusal.specs.Numbers.{number_of}
 use Rattle.refusal.specs.declared.Error.TheVariants as error
@@ -7,7 +7,7 @@ use Rattle.rules.specs.declared.Value.{Value}
 use Rattle.rules.specs.declared.Value.TheVariants as value
 use Rattle.rules.specs.Tree.{Tree}
 use Rattle.rules.specs.Value.{eval_tree, truth}
-use Rattle.rules.specs.Nodes.{Nodes, tree_of, is_tree}
+use Rattle.rules.specs.Pool.{Pool, tree_of, is_tree}
 use Rattle.rules_span.specs.declared.Counting.{Counting}
 use Rattle.rules_span.specs.declared.Counting.TheVariants.{Counted, BadSpan, NoTree}
 
@@ -49,7 +49,7 @@ answer true true = Counted
 answer true false = BadSpan
 answer false s = NoTree
 
-unfoldable pub tally_of : Nodes → ℕ → ℕ → ℕ → ℕ → Counting
+unfoldable pub tally_of : Pool → ℕ → ℕ → ℕ → ℕ → Counting
 unfolding is_span
 tally_of P nodes root a b = answer (is_tree P nodes root) (is_span a b)
 
@@ -64,6 +64,6 @@ figures_in Counted t a b = tallied t a (b - a + 1)
 figures_in BadSpan t a b = no_figures
 figures_in NoTree t a b = no_figures
 
-unfoldable pub figures_of : Nodes → ℕ → ℕ → ℕ → ℕ → List ℕ
+unfoldable pub figures_of : Pool → ℕ → ℕ → ℕ → ℕ → List ℕ
 unfolding tally_of tallied
 figures_of P nodes root a b = figures_in (tally_of P nodes root a b) (tree_of P root) a b

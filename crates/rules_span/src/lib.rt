@@ -1,6 +1,6 @@
 // Which forms a rule names over a span of counts, and how often.
 ghost use Rattle.std.specs.Prelude.{◌≡◌, ◌<◌, ◌≤◌, ◌+◌, ◌^◌, get_or};
-ghost use Rattle.rules.specs.Nodes.{nodes_of, tree_of};
+ghost use Rattle.rules.specs.Pool.{pool, tree_of};
 ghost use Rattle.rules.specs.Promise.{Sound};
 ghost use Rattle.rules_span.specs.Span.{line_of, bump, tallied, no_figures, tally_of, figures_of, number};
 
@@ -37,22 +37,22 @@ fn count_one(figures: &mut [u64; 18], line: usize)
 // Counts on, from no figures, over the first counts from a on.
 fn count<'a>(
     codes: &'a [u8; 512],
-    fields: &'a [u16; 1024],
+    places: &'a [u16; 1024],
     values: &'a [u64; 512],
     root: usize,
     a: u64,
     many: u64,
     figures: &mut [u64; 18],
 )
-    requires sound { Sound (nodes_of codes.now fields.now values.now) root }
+    requires sound { Sound (pool codes.now places.now values.now) root }
     requires few { (many ≤ 1000000) × (a + many ≤ 2 ^ 64) }
     requires blank { figures.old ≡ no_figures }
     ensures { figures.new ≡
-        tallied (tree_of (nodes_of codes.now fields.now values.now) root) a many }
+        tallied (tree_of (pool codes.now places.now values.now) root) a many }
 {
     let mut k = 0;
     while k < many {
-        let value = rules_value::value_at(codes, fields, values, root, a + k);
+        let value = rules_value::value_at(codes, places, values, root, a + k);
         count_one(figures, line_of(value));
         k += 1;
     }
@@ -72,7 +72,7 @@ pub fn number_of(counting: Counting) -> u32
 // How often each form occurs for the counts from a to b, both counted in. The tree is tested once, not at every count.
 pub fn tally<'a>(
     codes: &'a [u8; 512],
-    fields: &'a [u16; 1024],
+    places: &'a [u16; 1024],
     values: &'a [u64; 512],
     nodes: usize,
     root: usize,
@@ -80,12 +80,12 @@ pub fn tally<'a>(
     b: u64,
     figures: &mut [u64; 18],
 ) -> Counting
-    ensures answer { result ≡ tally_of (nodes_of codes.now fields.now values.now) nodes root a b }
+    ensures answer { result ≡ tally_of (pool codes.now places.now values.now) nodes root a b }
     ensures figures { figures.new ≡
-        figures_of (nodes_of codes.now fields.now values.now) nodes root a b }
+        figures_of (pool codes.now places.now values.now) nodes root a b }
 {
     *figures = [0u64; 18];
-    if !rules_tree::is_tree(codes, fields, nodes, root) {
+    if !rules_tree::is_tree(codes, places, nodes, root) {
         return Counting::NoTree;
     }
     if b < a {
@@ -94,6 +94,6 @@ pub fn tally<'a>(
     if 999_999 < b - a {
         return Counting::BadSpan;
     }
-    count(codes, fields, values, root, a, b - a + 1, figures);
+    count(codes, places, values, root, a, b - a + 1, figures);
     Counting::Counted
 }

@@ -1,13 +1,13 @@
--- Worked trees and nodes and their texts, computed; and the answers for buffers of several lengths.
+-- Worked trees and pools and their texts, computed; and the answers for buffers of several lengths.
 use Prim.Native.Nat.{ℕ, ◌+◌}
 use Prim.Native.String as Str
 use mathlib.Core.Path.{◌≡◌, refl}
 use mathlib.Core.List.{List, [], ◌∷◌, map}
 use lib.ListN.{length}
 use Rattle.text.specs.Bytes.{bytes}
-use Rattle.rules.specs.Tree.{Tree, var, int, negate, bin, cond, cmp, and, or, modulo, equal, not_equal, greater_or_equal, smaller_or_equal, greater, smaller}
+use Rattle.rules.specs.Tree.{Tree, var, int, nay, bin, cond, cmp, and, or, rem, eq, ne, ge, le, gt, lt}
 use Rattle.rules.specs.Operator.{op_of, op_at}
-use Rattle.rules.specs.Nodes.{Nodes, nodes_of, tree_at, tree_of, operands_to, operands, all_below, operands_below, member, distinct, shaped, is_tree, n_op, rest_op, not_node, pick_node, value_op, pair_op, choice_node, ternary_node}
+use Rattle.rules.specs.Pool.{Pool, pool, tree_at, tree_of, operands_to, operands, all_below, used, member, distinct, shaped, is_tree, n_op, rest_op, nay_node, pick_node, value_op, pair_op, choice_node, ternary_node}
 use Rattle.rules_text.specs.declared.Writing.{Writing}
 use Rattle.rules_text.specs.declared.Writing.TheVariants.{Length, TooLong, NoTree}
 use Rattle.rules_text.specs.Bracketed.{decimal_in, decimal, bracketed}
@@ -19,13 +19,13 @@ texts =
     ∷ (int 0, "0")
     ∷ (int 100, "100")
     ∷ (int 18446744073709551615, "18446744073709551615")
-    ∷ (negate var, "(!n)")
-    ∷ (negate (negate (int 7)), "(!(!7))")
-    ∷ (bin (cmp not_equal) var (int 1), "(n!=1)")
-    ∷ (bin (cmp greater) (bin (cmp greater_or_equal) var (int 1)) (bin (cmp smaller_or_equal) (int 2) var), "((n>=1)>(2<=n))")
-    ∷ (bin or (bin (cmp smaller) var (int 10)) (bin (cmp equal) (negate var) (int 20)), "((n<10)||((!n)==20))")
+    ∷ (nay var, "(!n)")
+    ∷ (nay (nay (int 7)), "(!(!7))")
+    ∷ (bin (cmp ne) var (int 1), "(n!=1)")
+    ∷ (bin (cmp gt) (bin (cmp ge) var (int 1)) (bin (cmp le) (int 2) var), "((n>=1)>(2<=n))")
+    ∷ (bin or (bin (cmp lt) var (int 10)) (bin (cmp eq) (nay var) (int 20)), "((n<10)||((!n)==20))")
     ∷ (cond var (int 1) (cond (int 0) (int 2) (int 3)), "(n?1:(0?2:3))")
-    ∷ (cond (bin and (bin (cmp equal) (bin modulo var (int 10)) (int 1)) (bin (cmp not_equal) (bin modulo var (int 100)) (int 11))) (int 0) (int 1), "((((n%10)==1)&&((n%100)!=11))?0:1)")
+    ∷ (cond (bin and (bin (cmp eq) (bin rem var (int 10)) (int 1)) (bin (cmp ne) (bin rem var (int 100)) (int 11))) (int 0) (int 1), "((((n%10)==1)&&((n%100)!=11))?0:1)")
     ∷ []
 
 pub texts_hold : map (λ (c : Tree × Str.String). bracketed c.0) texts ≡ map (λ (c : Tree × Str.String). bytes c.1) texts
@@ -33,10 +33,10 @@ unfolding bracketed decimal decimal_in
 texts_hold = refl
 
 -- a node of each kind, each an operand of a later one: its code, its fields, its value
-abbrev P : Nodes
+abbrev P : Pool
 P =
-    nodes_of
-    (n_op ∷ (rest_op + 1) ∷ (pair_op + 6) ∷ pick_node ∷ (value_op + 4) ∷ not_node ∷ 0 ∷ choice_node ∷ 1 ∷ 1 ∷ ternary_node ∷ [])
+    pool
+    (n_op ∷ (rest_op + 1) ∷ (pair_op + 6) ∷ pick_node ∷ (value_op + 4) ∷ nay_node ∷ 0 ∷ choice_node ∷ 1 ∷ 1 ∷ ternary_node ∷ [])
     (0 ∷ 0 ∷ 10 ∷ 0 ∷ 0 ∷ 0 ∷ 2 ∷ 0 ∷ 0 ∷ 0 ∷ 0 ∷ 0 ∷ 0 ∷ 0 ∷ 5 ∷ 0 ∷ 0 ∷ 0 ∷ 0 ∷ 0 ∷ 7 ∷ 8 ∷ [])
     (1 ∷ 11 ∷ 0 ∷ 0 ∷ 100 ∷ 0 ∷ 0 ∷ 3 ∷ 0 ∷ 7 ∷ 0 ∷ [])
 
@@ -63,14 +63,14 @@ abbrev pub answers : List (ℕ × ℕ × Writing)
 answers = (0, 6, Length 6) ∷ (0, 5, TooLong) ∷ (0, 600, Length 6) ∷ (6, 1, Length 1) ∷ (6, 0, TooLong) ∷ (10, 512, Length 49) ∷ (11, 512, NoTree) ∷ (11, 0, NoTree) ∷ []
 
 pub answers_hold : map (λ (c : ℕ × ℕ × Writing). writing_of P 11 c.0 c.1) answers ≡ map (λ (c : ℕ × ℕ × Writing). c.2) answers
-unfolding writing_of is_tree shaped operands_below distinct member operands operands_to all_below bracketed decimal decimal_in tree_of tree_at op_of op_at
+unfolding writing_of is_tree shaped used distinct member operands operands_to all_below bracketed decimal decimal_in tree_of tree_at op_of op_at
 answers_hold = refl
 
 -- what the buffer then holds
 pub rest_stays : left_by (writing_of P 11 0 9) (bracketed (tree_of P 0)) (bytes "_________") ≡ bytes "(n==1)___"
-unfolding writing_of is_tree shaped operands_below distinct member operands operands_to all_below bracketed decimal decimal_in tree_of tree_at op_of op_at
+unfolding writing_of is_tree shaped used distinct member operands operands_to all_below bracketed decimal decimal_in tree_of tree_at op_of op_at
 rest_stays = refl
 
 pub all_stays : left_by (writing_of P 11 0 5) (bracketed (tree_of P 0)) (bytes "_____") ≡ bytes "_____"
-unfolding writing_of is_tree shaped operands_below distinct member operands operands_to all_below bracketed decimal decimal_in tree_of tree_at op_of op_at
+unfolding writing_of is_tree shaped used distinct member operands operands_to all_below bracketed decimal decimal_in tree_of tree_at op_of op_at
 all_stays = refl

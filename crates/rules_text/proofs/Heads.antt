@@ -10,7 +10,7 @@ use lib.ListN.{length}
 use lib.Dec.{leb}
 use borrow.Author.Tests.{leb-true, leb-false}
 use Rattle.text.proofs.Tests.{taken, left, by_test}
-use Rattle.rules.specs.Nodes.{Nodes, code, tree_of, not_node, ternary_node}
+use Rattle.rules.specs.Pool.{Pool, code, tree_of, nay_node, ternary_node}
 use Rattle.rules.specs.Promise.{Sound}
 use Rattle.rules_tree.specs.Promise.{Stands}
 use Rattle.rules_tree.proofs.Runs.{down_to, leaf_last}
@@ -21,21 +21,21 @@ use Rattle.rules_text.proofs.Laid.{reworded, joined}
 use Rattle.rules_text.proofs.Nodes.{around}
 
 -- of k nodes from p down
-unfoldable pub heads_to : Nodes → ℕ → ℕ → List ℕ
+unfoldable pub heads_to : Pool → ℕ → ℕ → List ℕ
 heads_to P p zero = []
 heads_to P p (suc k) = heads_to P p k ++ head_of P (p - k)
 
-abbrev pub heads : Nodes → ℕ → ℕ → List ℕ
+abbrev pub heads : Pool → ℕ → ℕ → List ℕ
 heads P p q = heads_to P p (p - q)
 
-abbrev HeadsBounded : Nodes → ℕ → ℕ → Type 0
+abbrev HeadsBounded : Pool → ℕ → ℕ → Type 0
 HeadsBounded P p q = (r : ℕ) → q < r → r ≤ p → HeadBounded P r
 
 -- what stands before the node at q was put, and this node's text too
-abbrev pub PutsHeads : Nodes → ℕ → ℕ → ℕ → List ℕ → List ℕ → ℕ → Type 0
+abbrev pub PutsHeads : Pool → ℕ → ℕ → ℕ → List ℕ → List ℕ → ℕ → Type 0
 PutsHeads P p q = PutsWith (HeadsBounded P p q) (heads P p q)
 
-abbrev pub PutsTo : Nodes → ℕ → ℕ → ℕ → List ℕ → List ℕ → ℕ → Type 0
+abbrev pub PutsTo : Pool → ℕ → ℕ → ℕ → List ℕ → List ℕ → ℕ → Type 0
 PutsTo P p q = PutsWith (HeadsBounded P p q × Bounded (tree_of P q)) (heads P p q ++ bracketed (tree_of P q))
 
 -- a text ends at 513 at the latest
@@ -54,7 +54,7 @@ nothing at x h =
       text = λ h. refl;
     }
 
-module _ (P : Nodes) (p : ℕ) where
+module _ (P : Pool) (p : ℕ) where
   no_heads : heads P p p ≡ []
   unfolding heads_to
   no_heads = let e : p - p ≡ 0 = omega arith in rw e
@@ -79,7 +79,7 @@ module _ (P : Nodes) (p : ℕ) where
   pub leaf_put : {q at i r : ℕ} {x y z : List ℕ} → PutsHeads P p q at x y i → PutsTree (tree_of P q) i y z r → PutsTo P p q at x z r
   leaf_put a b = record { text = joined a.text b.text; bounded = (a.bounded, b.bounded) }
 
-  tail_put : {q at i r : ℕ} {x y z : List ℕ} → Sound P p → q < p → not_node ≤ code P (q + 1) → PutsTo P p q at x y i
+  tail_put : {q at i r : ℕ} {x y z : List ℕ} → Sound P p → q < p → nay_node ≤ code P (q + 1) → PutsTo P p q at x y i
       → PutsTail P (q + 1) i y z r → PutsTo P p (q + 1) at x z r
   tail_put {q} s l h a b =
       record {
@@ -107,20 +107,20 @@ module _ (P : Nodes) (p : ℕ) where
       record { text = reworded (ap (λ (k : List ℕ). k ++ bracketed (tree_of P p)) (sym no_heads)) v.text; bounded = v.bounded.1 }
 
 -- on the way up: whatever was put from a place on with the text of the node at q, the text of the node at r was put from there
-pub record Grows (P : Nodes) (p q : ℕ) (u : List ℕ) (i r : ℕ) (v : List ℕ) (j : ℕ) : Type 0 where
+pub record Grows (P : Pool) (p q : ℕ) (u : List ℕ) (i r : ℕ) (v : List ℕ) (j : ℕ) : Type 0 where
   pub is : (at : ℕ) (x : List ℕ) → PutsTo P p q at x u i → PutsTo P p r at x v j
 
-pub no_growth : (P : Nodes) (p q : ℕ) {u : List ℕ} {i : ℕ} → Grows P p q u i q u i
+pub no_growth : (P : Pool) (p q : ℕ) {u : List ℕ} {i : ℕ} → Grows P p q u i q u i
 no_growth P p q = record { is = λ at x w. w }
 
-pub growth : (P : Nodes) (p : ℕ) {q i r j k : ℕ} {u v w : List ℕ} → Sound P p → r < p → not_node ≤ code P (r + 1) → Grows P p q u i r v j
+pub growth : (P : Pool) (p : ℕ) {q i r j k : ℕ} {u v w : List ℕ} → Sound P p → r < p → nay_node ≤ code P (r + 1) → Grows P p q u i r v j
     → PutsTail P (r + 1) j v w k → Grows P p q u i (r + 1) w k
 growth P p s l h g b = record { is = λ at x a. tail_put P p s l h (g.is at x a) b }
 
 -- a first or a second operand lies below its parent's place
-pub falls_to : {P : Nodes} {p q x t : ℕ} → Sound P p → 2 * p ≡ t → x < p → q ≡ x → (2 * q + 1 < t) × Sound P q
+pub falls_to : {P : Pool} {p q x t : ℕ} → Sound P p → 2 * p ≡ t → x < p → q ≡ x → (2 * q + 1 < t) × Sound P q
 falls_to s e l d = (omega arith, down_to s (omega arith))
 
 -- where the way down ends
-pub at_leaf : {P : Nodes} {p q r : ℕ} → Sound P p → Stands P.codes p (ternary_node + 1) r → r ≤ q → q ≤ r → Sound P q × (code P q < not_node)
+pub at_leaf : {P : Pool} {p q r : ℕ} → Sound P p → Stands P.codes p (ternary_node + 1) r → r ≤ q → q ≤ r → Sound P q × (code P q < nay_node)
 at_leaf {P} {p} {q} {r} s t h l = let e : q ≡ r = omega arith in (down_to s (omega (arith, t.run.below)), rw e (leaf_last s t))

@@ -8,7 +8,7 @@ use lib.ListN.{get_or}
 use lib.Dec.{eqb}
 use borrow.Author.Tests.{eq-eqb, ne_eqb}
 use Rattle.text.proofs.Tests.{taken, left}
-use Rattle.rules.specs.Tree.{Op, cmp, and, or, modulo, equal, not_equal, greater_or_equal, smaller_or_equal, greater, smaller, calc, divide, plus, minus, times}
+use Rattle.rules.specs.Tree.{Op, cmp, and, or, rem, eq, ne, ge, le, gt, lt, calc, div, plus, minus, times}
 use Rattle.rules.specs.Operator.{op_of, op_code, Named}
 use Rattle.rules.proofs.Operators.{code_is}
 use Rattle.rules_text.specs.Bracketed.{sign_of}
@@ -30,16 +30,16 @@ bytes i = elim (eqb (get_or seconds i 0) 0) [ true ↦ get_or firsts i 0 ∷ [] 
 
 row : (op : Op) → sign_of op ≡ bytes (op_code op)
 unfolding op_code
-row (cmp equal) = refl
-row (cmp not_equal) = refl
-row (cmp greater_or_equal) = refl
-row (cmp smaller_or_equal) = refl
-row (cmp greater) = refl
-row (cmp smaller) = refl
+row (cmp eq) = refl
+row (cmp ne) = refl
+row (cmp ge) = refl
+row (cmp le) = refl
+row (cmp gt) = refl
+row (cmp lt) = refl
 row and = refl
 row or = refl
-row modulo = refl
-row divide = refl
+row rem = refl
+row div = refl
 row (calc plus) = refl
 row (calc minus) = refl
 row (calc times) = refl

@@ -5,9 +5,9 @@ use mathlib.Core.List.{List, [], ◌∷◌, ◌++◌}
 use native.Mathlib.Omega.{arith}
 use borrow.Author.Tests.{lt-ltb, le-ltb, eq-eqb, ne_eqb}
 use mathlib.Core.Option.{Option}
-use Rattle.rules.specs.Tree.{Tree, Op, var, int, bin, modulo}
+use Rattle.rules.specs.Tree.{Tree, Op, var, int, bin, rem}
 use Rattle.rules.specs.Operator.{op_of}
-use Rattle.rules.specs.Nodes.{Nodes, code, field, value, leaf, tree_of, n_op, not_node, value_op, pair_op, choice_node, ternary_node}
+use Rattle.rules.specs.Pool.{Pool, code, field, value, leaf, tree_of, n_op, nay_node, value_op, pair_op, choice_node, ternary_node}
 use Rattle.rules.proofs.Trees.{tree_leaf}
 use Rattle.rules_text.specs.Bracketed.{decimal, bracketed}
 use Rattle.rules_text.specs.Private.{sign_by, lead_of, head_of, tail_of, Puts, PutsTree, PutsValue, PutsHead, PutsTail, HeadBounded, TailBounded}
@@ -18,7 +18,7 @@ use Rattle.rules_text.proofs.Nodes.{Binary, value_text}
 pub rest_put :
     (m : ℕ) {at p q r s t : ℕ} {u v w x y z : List ℕ} →
     Puts (40 ∷ []) at u v p → Puts (110 ∷ []) p v w q → Puts (37 ∷ []) q w x r → PutsTree (int m) r x y s → Puts (41 ∷ []) s y z t →
-    PutsTree (bin modulo var (int m)) at u z t
+    PutsTree (bin rem var (int m)) at u z t
 unfolding bracketed
 rest_put m a b c d e = record { text = joined (joined (joined (joined a b) c) d.text) e; bounded = (tt, d.bounded) }
 
@@ -26,7 +26,7 @@ pub put_n : {at r : ℕ} {x y : List ℕ} → Puts (110 ∷ []) at x y r → Put
 unfolding bracketed
 put_n w = record { text = w; bounded = tt }
 
-pub put_rest : {m n at r : ℕ} {x y : List ℕ} → m ≡ n → PutsTree (bin modulo var (int m)) at x y r → PutsTree (bin modulo var (int n)) at x y r
+pub put_rest : {m n at r : ℕ} {x y : List ℕ} → m ≡ n → PutsTree (bin rem var (int m)) at x y r → PutsTree (bin rem var (int n)) at x y r
 put_rest e w = rw (← e) w
 
 -- an operator and an integer, its last operand
@@ -35,7 +35,7 @@ unfolding bracketed
 value_put i v a b c = record { text = joined (joined a b.text) c; bounded = b.bounded }
 
 -- a node that has no operand
-module _ (P : Nodes) (p : ℕ) {at : ℕ} where
+module _ (P : Pool) (p : ℕ) {at : ℕ} where
   pub put_count : {r : ℕ} {x y : List ℕ} → code P p ≡ 0 → Puts (110 ∷ []) at x y r → PutsTree (tree_of P p) at x y r
   put_count h w = let e : tree_of P p ≡ var = tree_leaf P p (omega arith) ∙ rw h in rw e (put_n w)
 
@@ -53,19 +53,19 @@ module _ (P : Nodes) (p : ℕ) {at : ℕ} where
       }
 
 -- a node at a place that is this one
-placed : (P : Nodes) {q n at r : ℕ} {x y : List ℕ} → q ≡ n → PutsTree (tree_of P q) at x y r → PutsTree (tree_of P n) at x y r
+placed : (P : Pool) {q n at r : ℕ} {x y : List ℕ} → q ≡ n → PutsTree (tree_of P q) at x y r → PutsTree (tree_of P n) at x y r
 placed P e w = rw (← e) w
 
 -- what stands before and after the node before
-module _ (P : Nodes) (p : ℕ) {at : ℕ} where
-  pub tail_not : {r : ℕ} {x y : List ℕ} → code P p ≡ not_node → Puts (41 ∷ []) at x y r → PutsTail P p at x y r
-  tail_not h w = let e = eq-eqb (code P p) not_node h in record { text = reworded (rw (tail_of, e)) w; bounded = rw (TailBounded, e) tt }
+module _ (P : Pool) (p : ℕ) {at : ℕ} where
+  pub tail_not : {r : ℕ} {x y : List ℕ} → code P p ≡ nay_node → Puts (41 ∷ []) at x y r → PutsTail P p at x y r
+  tail_not h w = let e = eq-eqb (code P p) nay_node h in record { text = reworded (rw (tail_of, e)) w; bounded = rw (TailBounded, e) tt }
 
-  pub tail_pick : {i j k l m r : ℕ} {u v w x y z : List ℕ} → (code P p ≡ not_node → ⊥) → code P p < value_op → Puts (63 ∷ []) at u v i → PutsTree (int (value P p)) i v w j
+  pub tail_pick : {i j k l m r : ℕ} {u v w x y z : List ℕ} → (code P p ≡ nay_node → ⊥) → code P p < value_op → Puts (63 ∷ []) at u v i → PutsTree (int (value P p)) i v w j
       → Puts (58 ∷ []) j w x k → m ≡ field P p 0 → PutsTree (int m) k x y l → Puts (41 ∷ []) l y z r → PutsTail P p at u z r
   unfolding bracketed
   tail_pick d h a b c e f g =
-      let n = ne_eqb (code P p) not_node d in
+      let n = ne_eqb (code P p) nay_node d in
       let t = lt-ltb (code P p) value_op h in
       record {
         text = reworded (rw (tail_of, n, t)) (joined (joined (joined a b.text) (joined c (reworded (ap decimal (sym e)) f.text))) g);
@@ -74,30 +74,30 @@ module _ (P : Nodes) (p : ℕ) {at : ℕ} where
 
   pub tail_value : {r : ℕ} {x y : List ℕ} → value_op ≤ code P p → code P p < pair_op → PutsValue (code P p - value_op) (value P p) at x y r → PutsTail P p at x y r
   tail_value h l w =
-      let n = ne_eqb (code P p) not_node (omega arith) in
+      let n = ne_eqb (code P p) nay_node (omega arith) in
       let t = le-ltb (code P p) value_op h in
       let f = lt-ltb (code P p) pair_op l in
       record { text = reworded (rw (tail_of, n, t, f)) w.text; bounded = rw (TailBounded, n, t, f) w.bounded }
 
   pub tail_last : {r : ℕ} {x y : List ℕ} → pair_op ≤ code P p → Puts (41 ∷ []) at x y r → PutsTail P p at x y r
   tail_last h w =
-      let n = ne_eqb (code P p) not_node (omega arith) in
+      let n = ne_eqb (code P p) nay_node (omega arith) in
       let t = le-ltb (code P p) value_op (omega arith) in
       let f = le-ltb (code P p) pair_op h in
       record { text = reworded (rw (tail_of, n, t, f)) w; bounded = rw (TailBounded, n, t, f) tt }
 
   module _ {i : ℕ} {u v : List ℕ} (a : Puts (40 ∷ []) at u v i) where
-    pub head_not : {r : ℕ} {x : List ℕ} → code P p ≡ not_node → Puts (33 ∷ []) i v x r → PutsHead P p at u x r
-    head_not h w = record { text = reworded (rw (head_of, eq-eqb (code P p) not_node h)) (joined a w); bounded = rw (HeadBounded, lt-ltb (code P p) pair_op (omega arith)) tt }
+    pub head_not : {r : ℕ} {x : List ℕ} → code P p ≡ nay_node → Puts (33 ∷ []) i v x r → PutsHead P p at u x r
+    head_not h w = record { text = reworded (rw (head_of, eq-eqb (code P p) nay_node h)) (joined a w); bounded = rw (HeadBounded, lt-ltb (code P p) pair_op (omega arith)) tt }
 
-    pub head_first : (code P p ≡ not_node → ⊥) → code P p < pair_op → PutsHead P p at u v i
+    pub head_first : (code P p ≡ nay_node → ⊥) → code P p < pair_op → PutsHead P p at u v i
     head_first d h =
         let t = lt-ltb (code P p) pair_op h in
-        record { text = reworded (rw (head_of, ne_eqb (code P p) not_node d, t)) a; bounded = rw (HeadBounded, t) tt }
+        record { text = reworded (rw (head_of, ne_eqb (code P p) nay_node d, t)) a; bounded = rw (HeadBounded, t) tt }
 
     module _ {q j : ℕ} {w : List ℕ} (h : pair_op ≤ code P p) (e : q ≡ field P p 0) (b : PutsTree (tree_of P q) i v w j) where
       lead_as : {l : List ℕ} → lead_of P p ≡ l → head_of P p ≡ 40 ∷ l
-      lead_as f = rw (head_of, ne_eqb (code P p) not_node (omega arith), le-ltb (code P p) pair_op h, f)
+      lead_as f = rw (head_of, ne_eqb (code P p) nay_node (omega arith), le-ltb (code P p) pair_op h, f)
 
       first : PutsTree (tree_of P (field P p 0)) i v w j
       first = placed P e b

@@ -10,7 +10,7 @@ use lib.Seq.{sets-eq, length-sets, paste, take_at}
 use lib.Dec.{leb}
 use borrow.Author.Tests.{le-leb, lt-leb, leb-true, leb-false}
 use Rattle.text.proofs.Tests.{taken, left, by_test, and_none}
-use Rattle.rules.specs.Nodes.{Nodes, tree_of, is_tree}
+use Rattle.rules.specs.Pool.{Pool, tree_of, is_tree}
 use Rattle.rules_text.specs.declared.Writing.{Writing}
 use Rattle.rules_text.specs.declared.Writing.TheVariants.{Length, TooLong, NoTree}
 use Rattle.rules_text.specs.Bracketed.{bracketed}
@@ -68,7 +68,7 @@ module _ {s old new : List ℕ} {n : ℕ} (w : Puts s 0 old new n) where
       ap (λ (l : List ℕ). l ++ drop (0 + n) before) (text_is k h) ∙ ap (λ (i : ℕ). s ++ drop i before) (zero-add n)
 
 -- the answer, by the tree test
-module _ (P : Nodes) (count root room : ℕ) where
+module _ (P : Pool) (count root room : ℕ) where
   pub no_tree : is_tree P count root ≡ false → NoTree ≡ writing_of P count root room
   unfolding writing_of
   no_tree e = sym (left _ _ e)
@@ -78,7 +78,7 @@ module _ (P : Nodes) (count root room : ℕ) where
   a_tree e d = d ∙ sym (taken _ _ e)
 
 -- what an answer with a length says
-pub record Written (P : Nodes) (count root room n : ℕ) : Type 0 where
+pub record Written (P : Pool) (count root room n : ℕ) : Type 0 where
   pub tree : is_tree P count root ≡ true
   pub length_is : n ≡ length (bracketed (tree_of P root))
   pub few : n ≤ 512
@@ -99,7 +99,7 @@ fitted_length s room n = go (leb (length s) 512) (leb (length s) room) refl refl
     go true false f g e = let z : ◌≡◌ {A = ℕ} 0 1 = cc in absurd (omega arith)
     go false b f g e = let z : ◌≡◌ {A = ℕ} 0 1 = cc in absurd (omega arith)
 
-module _ (P : Nodes) (count root room n : ℕ) where
+module _ (P : Pool) (count root room n : ℕ) where
   pub written : writing_of P count root room ≡ Length n → Written P count root room n
   unfolding writing_of
   written e =

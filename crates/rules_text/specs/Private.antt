@@ -5,7 +5,7 @@ use Rattle.std.proofs.Math.Option.{Option, none, some}
 use Rattle.std.proofs.lemmas.List.Edits.{sets}
 use Rattle.rules.specs.Tree.{Tree, Op, int}
 use Rattle.rules.specs.Operator.{op_of}
-use Rattle.rules.specs.Nodes.{Nodes, code, field, value, tree_of, not_node, value_op, pair_op, choice_node, ternary_node}
+use Rattle.rules.specs.Pool.{Pool, code, field, value, tree_of, nay_node, value_op, pair_op, choice_node, ternary_node}
 use Rattle.rules_text.specs.Bracketed.{decimal, sign_of, bracketed}
 use Rattle.rules_text.specs.Bounded.{Bounded}
 
@@ -45,7 +45,7 @@ abbrev pub PutsValue : ℕ → ℕ → ℕ → List ℕ → List ℕ → ℕ →
 PutsValue i v = PutsWith (v < 2 ^ 64) (valued i v)
 
 -- what stands before the node before in the text of the node at p, after its bracket, if that node is its last operand
-abbrev pub lead_of : Nodes → ℕ → List ℕ
+abbrev pub lead_of : Pool → ℕ → List ℕ
 lead_of P p =
     elim (ltb (code P p) choice_node) [
       | true ↦ bracketed (tree_of P (field P p 0)) ++ sign_by (op_of (code P p - pair_op))
@@ -53,14 +53,14 @@ lead_of P p =
     ]
 
 -- with its bracket, and whichever operand it is
-abbrev pub head_of : Nodes → ℕ → List ℕ
+abbrev pub head_of : Pool → ℕ → List ℕ
 head_of P p =
-    char "(" ∷ elim (eqb (code P p) not_node) [ true ↦ char "!" ∷ [] | false ↦ elim (ltb (code P p) pair_op) [ true ↦ [] | false ↦ lead_of P p ] ]
+    char "(" ∷ elim (eqb (code P p) nay_node) [ true ↦ char "!" ∷ [] | false ↦ elim (ltb (code P p) pair_op) [ true ↦ [] | false ↦ lead_of P p ] ]
 
 -- what stands after it
-abbrev pub tail_of : Nodes → ℕ → List ℕ
+abbrev pub tail_of : Pool → ℕ → List ℕ
 tail_of P p =
-    elim (eqb (code P p) not_node) [
+    elim (eqb (code P p) nay_node) [
       | true ↦ char ")" ∷ []
       | false ↦ elim (ltb (code P p) value_op) [
         | true ↦ char "?" ∷ decimal (value P p) ++ char ":" ∷ decimal (field P p 0) ++ char ")" ∷ []
@@ -69,7 +69,7 @@ tail_of P p =
     ]
 
 -- the integers that stand before it, and after it, are below 2^64
-abbrev pub HeadBounded : Nodes → ℕ → Type 0
+abbrev pub HeadBounded : Pool → ℕ → Type 0
 HeadBounded P p =
     elim (ltb (code P p) pair_op) [
       | true ↦ Unit {0}
@@ -79,9 +79,9 @@ HeadBounded P p =
       ]
     ]
 
-abbrev pub TailBounded : Nodes → ℕ → Type 0
+abbrev pub TailBounded : Pool → ℕ → Type 0
 TailBounded P p =
-    elim (eqb (code P p) not_node) [
+    elim (eqb (code P p) nay_node) [
       | true ↦ Unit {0}
       | false ↦ elim (ltb (code P p) value_op) [
         | true ↦ (value P p < 2 ^ 64) × (field P p 0 < 2 ^ 64)
@@ -89,8 +89,8 @@ TailBounded P p =
       ]
     ]
 
-abbrev pub PutsHead : Nodes → ℕ → ℕ → List ℕ → List ℕ → ℕ → Type 0
+abbrev pub PutsHead : Pool → ℕ → ℕ → List ℕ → List ℕ → ℕ → Type 0
 PutsHead P p = PutsWith (HeadBounded P p) (head_of P p)
 
-abbrev pub PutsTail : Nodes → ℕ → ℕ → List ℕ → List ℕ → ℕ → Type 0
+abbrev pub PutsTail : Pool → ℕ → ℕ → List ℕ → List ℕ → ℕ → Type 0
 PutsTail P p = PutsWith (TailBounded P p) (tail_of P p)

@@ -1,8 +1,8 @@
--- What writing the text of a rule into a buffer answers, and what it leaves there. SPEC 14: 11, then 8 for a text over 512 bytes
--- or longer than the buffer, both leaving it as it was; else the length, and the rest of the buffer stays.
+-- What writing the text of a rule into a buffer answers, and what it leaves there. SPEC 14: "after 11, a text over 512 bytes or
+-- longer than the buffer answers 8, and both leave it unchanged; otherwise the answer has the length and the rest of the buffer stays".
 use Rattle.std.specs.Prelude.{ℕ, true, false, ◌&&◌, List, ◌++◌, length, drop, leb}
 use Rattle.rules.specs.Tree.{Tree}
-use Rattle.rules.specs.Nodes.{Nodes, tree_of, is_tree}
+use Rattle.rules.specs.Pool.{Pool, tree_of, is_tree}
 use Rattle.rules_text.specs.declared.Writing.{Writing}
 use Rattle.rules_text.specs.declared.Writing.TheVariants.{Length, TooLong, NoTree}
 use Rattle.rules_text.specs.Bracketed.{bracketed}
@@ -13,7 +13,7 @@ abbrev pub fitted : List ℕ → ℕ → Writing
 fitted s room = elim (leb (length s) 512 && leb (length s) room) [ true ↦ Length (length s) | false ↦ TooLong ]
 
 -- and for the rule of a record
-unfoldable pub writing_of : Nodes → ℕ → ℕ → ℕ → Writing
+unfoldable pub writing_of : Pool → ℕ → ℕ → ℕ → Writing
 writing_of P count root room = elim (is_tree P count root) [ true ↦ fitted (bracketed (tree_of P root)) room | false ↦ NoTree ]
 
 -- what the buffer then holds

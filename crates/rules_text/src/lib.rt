@@ -3,8 +3,8 @@
 ghost use Rattle.std.specs.Prelude.{◌≡◌, [], ◌∷◌, ◌<◌, ◌≤◌, min, length, get_or};
 ghost use Rattle.std.proofs.Math.Seq.{paste};
 ghost use Rattle.rules.specs.Operator.{op_of, Named};
-ghost use Rattle.rules.specs.Tree.{bin, modulo, var, int};
-ghost use Rattle.rules.specs.Nodes.{nodes_of, tree_of, not_node};
+ghost use Rattle.rules.specs.Tree.{bin, rem, var, int};
+ghost use Rattle.rules.specs.Pool.{pool, tree_of, nay_node};
 ghost use Rattle.rules.specs.Promise.{Sound};
 ghost use Rattle.rules_text.specs.Bracketed.{bracketed};
 ghost use Rattle.rules_text.specs.Writing.{writing_of, left_by, BoundedBy};
@@ -12,6 +12,9 @@ ghost use Rattle.rules_text.specs.Private.{firsts, seconds, Puts, PutsTree, Puts
 
 use rules::{field, node, place};
 use rules_tree::{CODES, base};
+
+// The most bytes of a rule's text.
+const MOST: usize = 512;
 
 // What came of writing a rule's text into a buffer: its length, or that it has more than 512 bytes or more than the buffer, or that the
 // nodes are no tree.
@@ -69,8 +72,8 @@ fn second_byte(op: u8) -> u8
 fn put_byte(out: &mut [u8; 512], at: usize, b: u8) -> usize
     ensures { Puts (b ∷ []) at out.old out.new result }
 {
-    if rules::MOST_BYTES <= at {
-        return rules::MOST_BYTES + 1;
+    if MOST <= at {
+        return MOST + 1;
     }
     out[at] = b;
     at + 1
@@ -89,7 +92,7 @@ fn put_number(out: &mut [u8; 512], at: usize, v: u64) -> usize
 
 // Puts n % m.
 fn put_rest(out: &mut [u8; 512], at: usize, m: u64) -> usize
-    ensures { PutsTree (bin modulo var (int m)) at out.old out.new result }
+    ensures { PutsTree (bin rem var (int m)) at out.old out.new result }
 {
     let n = put_byte(out, at, b'(');
     let sign = put_byte(out, n, b'n');
@@ -124,15 +127,15 @@ fn put_value(out: &mut [u8; 512], at: usize, op: u8, v: u64) -> usize
 // Puts the text of a node that has no operand.
 fn put_leaf<'a>(
     codes: &'a [u8; 512],
-    fields: &'a [u16; 1024],
+    places: &'a [u16; 1024],
     values: &'a [u64; 512],
     p: usize,
     out: &mut [u8; 512],
     at: usize,
 ) -> usize
-    requires sound { Sound (nodes_of codes.now fields.now values.now) p }
-    requires leaf { get_or codes.now p 0 < not_node }
-    ensures { PutsTree (tree_of (nodes_of codes.now fields.now values.now) p) at out.old out.new result }
+    requires sound { Sound (pool codes.now places.now values.now) p }
+    requires leaf { get_or codes.now p 0 < nay_node }
+    ensures { PutsTree (tree_of (pool codes.now places.now values.now) p) at out.old out.new result }
 {
     let code = codes[p];
     if code == node::N {
@@ -147,22 +150,22 @@ fn put_leaf<'a>(
         let sign = put_byte(out, left, b'n');
         return put_value(out, sign, code - node::N_OP, v);
     }
-    let sign = put_rest(out, left, field(fields, p, 0) as u64);
+    let sign = put_rest(out, left, field(places, p, 0) as u64);
     put_value(out, sign, code - node::REST_OP, v)
 }
 
 // Puts what stands after the node before, in the text of the node at a place that has operands.
 fn put_tail<'a>(
     codes: &'a [u8; 512],
-    fields: &'a [u16; 1024],
+    places: &'a [u16; 1024],
     values: &'a [u64; 512],
     p: usize,
     out: &mut [u8; 512],
     at: usize,
 ) -> usize
-    requires sound { Sound (nodes_of codes.now fields.now values.now) p }
-    requires above { not_node ≤ get_or codes.now p 0 }
-    ensures { PutsTail (nodes_of codes.now fields.now values.now) p at out.old out.new result }
+    requires sound { Sound (pool codes.now places.now values.now) p }
+    requires above { nay_node ≤ get_or codes.now p 0 }
+    ensures { PutsTail (pool codes.now places.now values.now) p at out.old out.new result }
 {
     let code = codes[p];
     if code == node::NOT {
@@ -172,10 +175,10 @@ fn put_tail<'a>(
         let yes = put_byte(out, at, b'?');
         let colon = put_number(out, yes, values[p]);
         let no = put_byte(out, colon, b':');
-        let close = put_number(out, no, field(fields, p, 0) as u64);
+        let close = put_number(out, no, field(places, p, 0) as u64);
         return put_byte(out, close, b')');
     }
-    if code < node::PAIR_OP {
+    if code < node::OP {
         return put_value(out, at, code - node::VALUE_OP, values[p]);
     }
     put_byte(out, at, b')')
@@ -185,35 +188,35 @@ fn put_tail<'a>(
 #[cycle(put_head_put_node)]
 fn put_head<'a>(
     codes: &'a [u8; 512],
-    fields: &'a [u16; 1024],
+    places: &'a [u16; 1024],
     values: &'a [u64; 512],
     p: usize,
     out: &mut [u8; 512],
     at: usize,
 ) -> usize
-    requires sound { Sound (nodes_of codes.now fields.now values.now) p }
-    requires above { not_node ≤ get_or codes.now p 0 }
+    requires sound { Sound (pool codes.now places.now values.now) p }
+    requires above { nay_node ≤ get_or codes.now p 0 }
     requires room { at ≤ 513 }
-    ensures { PutsHead (nodes_of codes.now fields.now values.now) p at out.old out.new result }
+    ensures { PutsHead (pool codes.now places.now values.now) p at out.old out.new result }
 {
     let code = codes[p];
     let first = put_byte(out, at, b'(');
     if code == node::NOT {
         return put_byte(out, first, b'!');
     }
-    if code < node::PAIR_OP {
+    if code < node::OP {
         return first;
     }
-    let sign = put_node(codes, fields, values, place(fields, p, 0), out, first);
+    let sign = put_node(codes, places, values, place(places, p, 0), out, first);
     if code < node::CHOICE {
-        return put_sign(out, sign, code - node::PAIR_OP);
+        return put_sign(out, sign, code - node::OP);
     }
     let yes = put_byte(out, sign, b'?');
     if code < node::TERNARY {
         let colon = put_number(out, yes, values[p]);
         return put_byte(out, colon, b':');
     }
-    let colon = put_node(codes, fields, values, place(fields, p, 1), out, yes);
+    let colon = put_node(codes, places, values, place(places, p, 1), out, yes);
     put_byte(out, colon, b':')
 }
 
@@ -224,27 +227,27 @@ fn put_head<'a>(
 #[cycle(put_head_put_node)]
 fn put_node<'a>(
     codes: &'a [u8; 512],
-    fields: &'a [u16; 1024],
+    places: &'a [u16; 1024],
     values: &'a [u64; 512],
     p: usize,
     out: &mut [u8; 512],
     at: usize,
 ) -> usize
-    requires sound { Sound (nodes_of codes.now fields.now values.now) p }
+    requires sound { Sound (pool codes.now places.now values.now) p }
     requires room { at ≤ 513 }
-    ensures { PutsTree (tree_of (nodes_of codes.now fields.now values.now) p) at out.old out.new result }
+    ensures { PutsTree (tree_of (pool codes.now places.now values.now) p) at out.old out.new result }
 {
     let base = base(codes, p, CODES);
     let mut q = p;
     let mut end = at;
     while base < q {
-        end = put_head(codes, fields, values, q, out, end);
+        end = put_head(codes, places, values, q, out, end);
         q -= 1;
     }
-    end = put_leaf(codes, fields, values, q, out, end);
+    end = put_leaf(codes, places, values, q, out, end);
     while q < p {
         q += 1;
-        end = put_tail(codes, fields, values, q, out, end);
+        end = put_tail(codes, places, values, q, out, end);
     }
     end
 }
@@ -271,24 +274,24 @@ fn copy<'a>(text: &'a [u8], n: usize, buffer: &mut [u8])
 // Writes the text of a rule into a buffer. A refusal leaves it as it was, and the bytes after the text stay.
 pub fn write<'a>(
     codes: &'a [u8; 512],
-    fields: &'a [u16; 1024],
+    places: &'a [u16; 1024],
     values: &'a [u64; 512],
     count: usize,
     root: usize,
     buffer: &mut [u8],
 ) -> Writing
-    ensures answer { result ≡ writing_of (nodes_of codes.now fields.now values.now)
+    ensures answer { result ≡ writing_of (pool codes.now places.now values.now)
         count root (length buffer.old) }
     ensures left { buffer.new ≡ left_by result
-        (bracketed (tree_of (nodes_of codes.now fields.now values.now) root)) buffer.old }
-    ensures bounded { BoundedBy result (tree_of (nodes_of codes.now fields.now values.now) root) }
+        (bracketed (tree_of (pool codes.now places.now values.now) root)) buffer.old }
+    ensures bounded { BoundedBy result (tree_of (pool codes.now places.now values.now) root) }
 {
-    if !rules_tree::is_tree(codes, fields, count, root) {
+    if !rules_tree::is_tree(codes, places, count, root) {
         return Writing::NoTree;
     }
     let mut text = [0u8; 512];
-    let n = put_node(codes, fields, values, root, &mut text, 0);
-    let room = least(rules::MOST_BYTES, buffer.len());
+    let n = put_node(codes, places, values, root, &mut text, 0);
+    let room = least(MOST, buffer.len());
     if room < n {
         return Writing::TooLong;
     }

@@ -5,26 +5,26 @@ use mathlib.Core.Path.{◌≡◌, refl}
 use mathlib.Core.Bool.{Bool, true, false}
 use mathlib.Core.List.{List, [], ◌∷◌, map}
 use lib.Dec.{leb}
-use Rattle.rules.specs.Nodes.{Nodes, nodes_of, known, operands_to, operands, all_below, operands_below, member, distinct, shaped, is_tree, n_op, rest_op, not_node, pick_node, value_op, pair_op, choice_node, ternary_node}
+use Rattle.rules.specs.Pool.{Pool, pool, known, operands_to, operands, all_below, used, member, distinct, shaped, is_tree, n_op, rest_op, nay_node, pick_node, value_op, pair_op, choice_node, ternary_node}
 
 -- n and n, with fields that they do not use, and a node over them
-abbrev pub over : ℕ → ℕ → ℕ → Nodes
-over c x y = nodes_of (0 ∷ 0 ∷ c ∷ []) (9 ∷ 9 ∷ 600 ∷ 600 ∷ x ∷ y ∷ []) []
+abbrev pub over : ℕ → ℕ → ℕ → Pool
+over c x y = pool (0 ∷ 0 ∷ c ∷ []) (9 ∷ 9 ∷ 600 ∷ 600 ∷ x ∷ y ∷ []) []
 
 -- n and n, a node over the second, and one over the first and it, or over the first two and it
-abbrev beside : ℕ → ℕ → Nodes
-beside c x = nodes_of (0 ∷ 0 ∷ not_node ∷ c ∷ []) (0 ∷ 0 ∷ 0 ∷ 0 ∷ 0 ∷ 0 ∷ x ∷ 0 ∷ []) []
+abbrev beside : ℕ → ℕ → Pool
+beside c x = pool (0 ∷ 0 ∷ nay_node ∷ c ∷ []) (0 ∷ 0 ∷ 0 ∷ 0 ∷ 0 ∷ 0 ∷ x ∷ 0 ∷ []) []
 
-abbrev among : ℕ → ℕ → Nodes
-among x y = nodes_of (0 ∷ 0 ∷ 0 ∷ ternary_node ∷ []) (0 ∷ 0 ∷ 0 ∷ 0 ∷ 0 ∷ 0 ∷ x ∷ y ∷ []) []
+abbrev among : ℕ → ℕ → Pool
+among x y = pool (0 ∷ 0 ∷ 0 ∷ ternary_node ∷ []) (0 ∷ 0 ∷ 0 ∷ 0 ∷ 0 ∷ 0 ∷ x ∷ y ∷ []) []
 
 pub record Row : Type 0 where
-  pub nodes : Nodes
+  pub nodes : Pool
   pub count : ℕ
   pub root : ℕ
   pub answer : Bool
 
-abbrev row : Nodes → ℕ → ℕ → Bool → Row
+abbrev row : Pool → ℕ → ℕ → Bool → Row
 row P k r b = record { nodes = P; count = k; root = r; answer = b }
 
 abbrev pub rows : List Row
@@ -32,12 +32,12 @@ rows =
     row (over pair_op 0 9) 3 2 true
     ∷ row (among 0 1) 4 3 true
     -- a node without places uses neither field, one with one place not the second
-    ∷ row (over not_node 600 65535) 3 2 true
+    ∷ row (over nay_node 600 65535) 3 2 true
     ∷ row (over (rest_op + 8) 600 65535) 3 2 true
     ∷ row (over (pair_op + 8) 0 65535) 3 2 true
     ∷ row (beside choice_node 0) 4 3 true
     -- nodes off the root's tree, each at the root of its own
-    ∷ row (over not_node 0 0) 3 0 true
+    ∷ row (over nay_node 0 0) 3 0 true
     -- more than 512 nodes
     ∷ row (over pair_op 0 0) 512 2 true
     ∷ row (over pair_op 0 0) 513 2 false
@@ -52,7 +52,7 @@ rows =
     ∷ row (over pair_op 2 0) 3 2 false
     ∷ row (over pair_op 65535 0) 3 2 false
     ∷ row (among 0 3) 4 3 false
-    ∷ row (nodes_of (not_node ∷ []) (0 ∷ 0 ∷ []) []) 1 0 false
+    ∷ row (pool (nay_node ∷ []) (0 ∷ 0 ∷ []) []) 1 0 false
     -- an operand twice: of one parent, of one ?:, of two
     ∷ row (over pair_op 1 0) 3 2 false
     ∷ row (among 2 1) 4 3 false
@@ -61,11 +61,11 @@ rows =
     ∷ []
 
 pub rows_hold : map (λ r. is_tree r.nodes r.count r.root) rows ≡ map (λ r. r.answer) rows
-unfolding is_tree shaped operands_below operands operands_to all_below distinct member
+unfolding is_tree shaped used operands operands_to all_below distinct member
 rows_hold = refl
 
 -- the codes' numbers, and which codes are known
-pub code_numbers : (n_op ∷ rest_op ∷ not_node ∷ pick_node ∷ value_op ∷ pair_op ∷ choice_node ∷ ternary_node ∷ []) ≡ (2 ∷ 15 ∷ 28 ∷ 29 ∷ 30 ∷ 43 ∷ 56 ∷ 57 ∷ [])
+pub code_numbers : (n_op ∷ rest_op ∷ nay_node ∷ pick_node ∷ value_op ∷ pair_op ∷ choice_node ∷ ternary_node ∷ []) ≡ (2 ∷ 15 ∷ 28 ∷ 29 ∷ 30 ∷ 43 ∷ 56 ∷ 57 ∷ [])
 code_numbers = refl
 
 pub known_codes : (c : ℕ) → known c ≡ leb c 57

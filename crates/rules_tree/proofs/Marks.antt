@@ -13,7 +13,7 @@ use lib.ListN.{length, get_or, set, replicate, length-set, length-replicate, get
 use lib.Seq.{get_or-set_same, get_or-set_other}
 use lib.Dec.{leb, ltb, eqb}
 use borrow.Author.Tests.{lt-ltb, le-ltb, le-leb, lt-leb, leb-true, leb-false, ltb-true, eq-eqb, ne_eqb, not-false}
-use Rattle.rules.specs.Nodes.{Nodes, code, field, known, field_places, operands_to, operands, all_below, member, distinct, operands_below, shaped, is_tree, not_node, pair_op, ternary_node}
+use Rattle.rules.specs.Pool.{Pool, code, field, known, fields, operands_to, operands, all_below, member, distinct, used, shaped, is_tree, nay_node, pair_op, ternary_node}
 use Rattle.rules_tree.specs.Private.{Unmarked, Marked, Took, Placed, Passes}
 use Rattle.rules.proofs.Operators.{never, split}
 use Rattle.rules.proofs.Trees.{both_left, both_right, member_head, member_tail, both_fields, has_operands}
@@ -72,16 +72,16 @@ and_swap true false y d = sym (and-false y)
 and_swap false b y d = refl
 
 -- the place before a node and the operands in its fields before the j-th were taken
-pub record Taken (P : Nodes) (p j : ℕ) (l m : List ℕ) : Type 0 where
+pub record Taken (P : Pool) (p j : ℕ) (l m : List ℕ) : Type 0 where
   pub lower : all_below p (operands_to P p j) ≡ true
-  pub marked : Marked m (operands_to P p j ++ operands_below P p)
+  pub marked : Marked m (operands_to P p j ++ used P p)
   pub long : length m ≡ length l
   pub room : p ≤ length l
 
-module _ (P : Nodes) (p : ℕ) where
+module _ (P : Pool) (p : ℕ) where
   -- an operand that was not taken fails the node
-  operand_fails : (a j : ℕ) → j < a → (ltb (field P p j) p && not (member (field P p j) (operands_to P p j ++ operands_below P p))) ≡ false
-      → (all_below p (operands_to P p a) && distinct (operands_to P p a ++ operands_below P p)) ≡ false
+  operand_fails : (a j : ℕ) → j < a → (ltb (field P p j) p && not (member (field P p j) (operands_to P p j ++ used P p))) ≡ false
+      → (all_below p (operands_to P p a) && distinct (operands_to P p a ++ used P p)) ≡ false
   unfolding operands_to all_below distinct
   operand_fails zero j h e = absurd (omega arith)
   operand_fails (suc a) j h e =
@@ -98,21 +98,21 @@ member_below q k (x ∷ xs) ys h e f =
     let l = ltb-true x k (both_left (ltb x k) _ e) in
     member_tail x q (xs ++ ys) (omega arith) ∙ member_below q k xs ys h (both_right (ltb x k) _ e) f
 
-free : (P : Nodes) (q k : ℕ) → k ≤ q + 1 → shaped P k ≡ true → member q (operands_below P k) ≡ false
-unfolding shaped operands_below member
+free : (P : Pool) (q k : ℕ) → k ≤ q + 1 → shaped P k ≡ true → member q (used P k) ≡ false
+unfolding shaped used member
 free P q zero h e = refl
 free P q (suc k) h e =
     let d = both_right (shaped P k) _ e in
-    member_below q k (operands P k) (operands_below P k) (omega arith) (both_right (known (code P k)) _ d) (free P q k (omega arith) (both_left (shaped P k) _ e))
+    member_below q k (operands P k) (used P k) (omega arith) (both_right (known (code P k)) _ d) (free P q k (omega arith) (both_left (shaped P k) _ e))
 
 -- at place 0 there is none before
-none_below : (P : Nodes) (a : ℕ) → all_below 0 (operands_to P 0 a) ≡ false
+none_below : (P : Pool) (a : ℕ) → all_below 0 (operands_to P 0 a) ≡ false
 unfolding operands_to all_below
 none_below P zero = refl
 none_below P (suc a) = rw (le-ltb (field P 0 a) 0 (omega arith))
 
-module _ (P : Nodes) (p : ℕ) {l : List ℕ} where
-  pub before_taken : 0 < p → p < length l → shaped P p ≡ true → Marked l (operands_below P p) → Taken P p 0 l (set l (p - 1) 1)
+module _ (P : Pool) (p : ℕ) {l : List ℕ} where
+  pub before_taken : 0 < p → p < length l → shaped P p ≡ true → Marked l (used P p) → Taken P p 0 l (set l (p - 1) 1)
   unfolding operands_to all_below
   before_taken z h e k =
       let f : eqb (get_or l (p - 1) 0) 0 ≡ true = not-false _ (k.says (p - 1) (omega arith) ∙ free P (p - 1) p (omega arith) e) in
@@ -137,42 +137,42 @@ module _ (P : Nodes) (p : ℕ) {l : List ℕ} where
       }
 
   -- the answers of the test of one node
-  pub leaf : code P p < not_node → Marked l (operands_below P p) → Placed P p l l true
+  pub leaf : code P p < nay_node → Marked l (used P p) → Placed P p l l true
   unfolding operands all_below
   leaf h k = record {
-    answer = rw (le-leb (code P p) ternary_node (omega arith), operands, lt-ltb (code P p) not_node h, k.apart);
-    marks = λ e. rw (operands, lt-ltb (code P p) not_node h) k;
+    answer = rw (le-leb (code P p) ternary_node (omega arith), operands, lt-ltb (code P p) nay_node h, k.apart);
+    marks = λ e. rw (operands, lt-ltb (code P p) nay_node h) k;
     long = λ e. refl;
   }
 
-  no : {n : List ℕ} → (known (code P p) && (all_below p (operands P p) && distinct (operands P p ++ operands_below P p))) ≡ false → Placed P p l n false
+  no : {n : List ℕ} → (known (code P p) && (all_below p (operands P p) && distinct (operands P p ++ used P p))) ≡ false → Placed P p l n false
   no e = record { answer = sym e; marks = λ e. never e; long = λ e. never e }
 
-  pub first : p ≡ 0 → not_node ≤ code P p → Placed P p l l false
-  first e h = no (rw (has_operands P p h, e, none_below P (field_places (code P 0))) (and-false (known (code P 0))))
+  pub first : p ≡ 0 → nay_node ≤ code P p → Placed P p l l false
+  first e h = no (rw (has_operands P p h, e, none_below P (fields (code P 0))) (and-false (known (code P 0))))
 
   pub unknown : {n : List ℕ} → ternary_node < code P p → Placed P p l n false
   unknown h = no (rw (lt-leb (code P p) ternary_node h))
 
-  pub refused : (j : ℕ) {m n : List ℕ} {r : Bool} → not_node ≤ code P p → j < field_places (code P p) → Taken P p j l m → Took (field P p j) p m n r
+  pub refused : (j : ℕ) {m n : List ℕ} {r : Bool} → nay_node ≤ code P p → j < fields (code P p) → Taken P p j l m → Took (field P p j) p m n r
       → r ≡ false → Placed P p l n false
   refused j h i k t e =
-      no (rw (has_operands P p h, operand_fails P p (field_places (code P p)) j i (untaken k.marked (omega (arith, k.room, k.long)) t e)) (and-false (known (code P p))))
+      no (rw (has_operands P p h, operand_fails P p (fields (code P p)) j i (untaken k.marked (omega (arith, k.room, k.long)) t e)) (and-false (known (code P p))))
 
-  placed : (j : ℕ) {m : List ℕ} → code P p ≤ ternary_node → not_node ≤ code P p → j ≡ field_places (code P p) → Taken P p j l m → Placed P p l m true
+  placed : (j : ℕ) {m : List ℕ} → code P p ≤ ternary_node → nay_node ≤ code P p → j ≡ fields (code P p) → Taken P p j l m → Placed P p l m true
   placed j b h i k =
-      let k' : Taken P p (field_places (code P p)) _ _ = rw i at k in
+      let k' : Taken P p (fields (code P p)) _ _ = rw i at k in
       record {
         answer = rw (le-leb (code P p) ternary_node b, has_operands P p h, k'.lower, k'.marked.apart);
         marks = λ e. rw (has_operands P p h) k'.marked;
         long = λ e. k.long;
       }
 
-  pub one_operand : {m : List ℕ} → not_node ≤ code P p → code P p < pair_op → Taken P p 0 l m → Placed P p l m true
-  one_operand h i k = placed 0 (omega arith) h (rw (field_places, lt-ltb _ _ i)) k
+  pub one_operand : {m : List ℕ} → nay_node ≤ code P p → code P p < pair_op → Taken P p 0 l m → Placed P p l m true
+  one_operand h i k = placed 0 (omega arith) h (rw (fields, lt-ltb _ _ i)) k
 
   pub two_operands : {m : List ℕ} → pair_op ≤ code P p → code P p < ternary_node → Taken P p 1 l m → Placed P p l m true
-  two_operands h i k = placed 1 (omega arith) (omega arith) (rw (field_places, le-ltb _ _ h, lt-ltb _ _ i)) k
+  two_operands h i k = placed 1 (omega arith) (omega arith) (rw (fields, le-ltb _ _ h, lt-ltb _ _ i)) k
 
   -- a third operand is the last, so it decides
   pub third_decides : (r : Bool) {m n : List ℕ} → code P p ≡ ternary_node → Taken P p 1 l m → Took (field P p 1) p m n r → Placed P p l n r
@@ -185,19 +185,19 @@ distinct_tail [] zs e = e
 distinct_tail (y ∷ ys) zs e = rw (distinct_tail ys zs e) (and-false (not (member y (ys ++ zs))))
 
 -- every place below k was passed
-pub record Passed (P : Nodes) (k : ℕ) (m : List ℕ) : Type 0 where
+pub record Passed (P : Pool) (k : ℕ) (m : List ℕ) : Type 0 where
   pub whole : shaped P k ≡ true
-  pub marked : Marked m (operands_below P k)
+  pub marked : Marked m (used P k)
 
-module _ (P : Nodes) where
+module _ (P : Pool) where
   pub none_passed : {m : List ℕ} → Unmarked m → Passed P 0 m
-  unfolding shaped operands_below member distinct
+  unfolding shaped used member distinct
   none_passed k = record { whole = refl; marked = record { says = λ q h. rw (k.none q h); apart = refl } }
 
   pub one_passed : (p : ℕ) {m n : List ℕ} {r : Bool} → Passed P p m → Placed P p m n r → r ≡ true → Passed P (p + 1) n
-  unfolding shaped operands_below
+  unfolding shaped used
   one_passed p k t e =
-      let d : (known (code P p) && (all_below p (operands P p) && distinct (operands P p ++ operands_below P p))) ≡ true = sym t.answer ∙ e in
+      let d : (known (code P p) && (all_below p (operands P p) && distinct (operands P p ++ used P p))) ≡ true = sym t.answer ∙ e in
       let b = both_right (known (code P p)) _ d in
       record {
         whole = rw (add-one, k.whole, both_left (known (code P p)) _ d, both_left (all_below p (operands P p)) _ b);
@@ -205,19 +205,19 @@ module _ (P : Nodes) where
       }
 
   -- what fails at the places below k fails the whole
-  whole_fails : (k p : ℕ) → k ≤ p → (shaped P k && distinct (operands_below P k)) ≡ false → (shaped P p && distinct (operands_below P p)) ≡ false
-  unfolding shaped operands_below
+  whole_fails : (k p : ℕ) → k ≤ p → (shaped P k && distinct (used P k)) ≡ false → (shaped P p && distinct (used P p)) ≡ false
+  unfolding shaped used
   whole_fails k zero h e = let z : k ≡ 0 = omega arith in rw z at e
   whole_fails k (suc p) h e =
       ⊎_elim
       (λ q. rw q at e)
       (λ l. let f = whole_fails k p (le_of_suc-le-suc l) e in
-      split (shaped P p) (λ s. rw (s, distinct_tail (operands P p) (operands_below P p) (rw s at f), and-false)) (λ s. rw s))
+      split (shaped P p) (λ s. rw (s, distinct_tail (operands P p) (used P p) (rw s at f), and-false)) (λ s. rw s))
       (eq-or-lt_of_le h)
 
   -- the answers of the test of all nodes
   pub stopped : {m n : List ℕ} {r : Bool} (k p : ℕ) → p < k → Placed P p m n r → r ≡ false → Passes P k p
-  unfolding shaped operands_below
+  unfolding shaped used
   stopped k p h t e = record {
     all = λ d. absurd (omega arith);
     fails = λ d. whole_fails (suc p) k h (rw (and_assoc, and_assoc, sym t.answer ∙ e) (and-false (shaped P p)));
@@ -230,7 +230,7 @@ module _ (P : Nodes) where
   }
 
 -- the answers of the tree test
-module _ (P : Nodes) (count root : ℕ) where
+module _ (P : Pool) (count root : ℕ) where
   pub too_many : 512 < count → false ≡ is_tree P count root
   unfolding is_tree
   too_many h = rw (lt-leb count 512 h)

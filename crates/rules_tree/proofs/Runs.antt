@@ -10,24 +10,24 @@ use native.Mathlib.Decide.{dec_lt}
 use lib.ListN.{get_or}
 use lib.Dec.{leb, ltb}
 use borrow.Author.Tests.{leb-true, ltb-true, le-leb, lt-ltb}
-use Rattle.rules.specs.Nodes.{Nodes, code, not_node, ternary_node}
+use Rattle.rules.specs.Pool.{Pool, code, nay_node, ternary_node}
 use Rattle.rules.specs.Promise.{Sound}
 use Rattle.rules.proofs.Operators.{never}
 use Rattle.rules.proofs.Trees.{both_left, both_right, known_in, before_in}
 use Rattle.rules_tree.specs.Promise.{above, Run, Stands}
 
-pub low : (c e : ℕ) → above c e ≡ true → not_node ≤ c
-low c e h = leb-true not_node c (both_left (leb not_node c) (ltb c e) h)
+pub low : (c e : ℕ) → above c e ≡ true → nay_node ≤ c
+low c e h = leb-true nay_node c (both_left (leb nay_node c) (ltb c e) h)
 
 pub high : (c e : ℕ) → above c e ≡ true → c < e
-high c e h = ltb-true c e (both_right (leb not_node c) (ltb c e) h)
+high c e h = ltb-true c e (both_right (leb nay_node c) (ltb c e) h)
 
 pub no_run : (codes : List ℕ) (p e : ℕ) → Run codes p e p
 no_run codes p e = record { below = omega arith; all = λ i h l. absurd (omega arith) }
 
 module _ {codes : List ℕ} {p e q : ℕ} (r : Run codes p e q) where
   -- place 0 holds no such node
-  pub some_below : get_or codes 0 0 < not_node → above (get_or codes q 0) e ≡ true → 0 < q
+  pub some_below : get_or codes 0 0 < nay_node → above (get_or codes q 0) e ≡ true → 0 < q
   some_below h a = ⊎_elim (λ d. let l = low (get_or codes 0 0) e (rw (← d) at a) in absurd (omega arith)) (λ l. l) (eq-or-lt_of_le (omega arith))
 
   pub longer : (i : ℕ) → suc i ≡ q → above (get_or codes q 0) e ≡ true → Run codes p e i
@@ -48,7 +48,7 @@ one_base {codes} {p} {e} {q} {r} s t =
     (λ f. by_cases (dec_lt r q) (λ g. never (sym s.stops ∙ t.run.all q g s.run.below)) (λ g. omega arith))
 
 -- at a sound place
-module _ {P : Nodes} {p : ℕ} (s : Sound P p) where
+module _ {P : Pool} {p : ℕ} (s : Sound P p) where
   pub down_to : {q : ℕ} → q ≤ p → Sound P q
   down_to h = record { count = s.count; inside = omega (arith, s.inside); few = s.few; shape = s.shape }
 
@@ -60,13 +60,13 @@ module _ {P : Nodes} {p : ℕ} (s : Sound P p) where
   falls_to e l d = (omega arith, down_to (omega arith))
 
   -- place 0 holds a leaf
-  pub leaf_first : code P 0 < not_node
+  pub leaf_first : code P 0 < nay_node
   leaf_first =
-      by_cases (dec_lt (code P 0) not_node) (λ e. e) (λ e. let h = before_in {p = 0} (down_to (omega arith)) (omega arith) in absurd (omega arith))
+      by_cases (dec_lt (code P 0) nay_node) (λ e. e) (λ e. let h = before_in {p = 0} (down_to (omega arith)) (omega arith) in absurd (omega arith))
 
   -- so does what a run of all nodes with operands stands on
-  pub leaf_last : {q : ℕ} → Stands P.codes p (ternary_node + 1) q → code P q < not_node
+  pub leaf_last : {q : ℕ} → Stands P.codes p (ternary_node + 1) q → code P q < nay_node
   leaf_last {q} t =
       let h = known_in (down_to t.run.below) in
-      by_cases (dec_lt (code P q) not_node) (λ e. e)
-      (λ e. never (sym t.stops ∙ rw (above, le-leb not_node (code P q) (omega arith), lt-ltb (code P q) (ternary_node + 1) (omega arith))))
+      by_cases (dec_lt (code P q) nay_node) (λ e. e)
+      (λ e. never (sym t.stops ∙ rw (above, le-leb nay_node (code P q) (omega arith), lt-ltb (code P q) (ternary_node + 1) (omega arith))))

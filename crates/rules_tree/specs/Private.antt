@@ -1,6 +1,6 @@
 -- What the functions of the tree test promise one another: SPEC 8, place by place.
 use Rattle.std.specs.Prelude.{ℕ, ◌+◌, ◌<◌, ◌≤◌, ◌≡◌, Bool, true, false, not, ◌&&◌, List, ◌++◌, length, get_or, set, ltb, eqb}
-use Rattle.rules.specs.Nodes.{Nodes, code, known, operands, all_below, member, distinct, operands_below, shaped}
+use Rattle.rules.specs.Pool.{Pool, code, known, operands, all_below, member, distinct, used, shaped}
 
 -- no place is marked
 pub record Unmarked (m : List ℕ) : Type 0 where
@@ -17,12 +17,12 @@ pub record Took (q p : ℕ) (m n : List ℕ) (r : Bool) : Type 0 where
   pub marks : r ≡ true → n ≡ set m q 1
 
 -- the node at p was tested against the marks m of the operands before it, and its operands were marked
-pub record Placed (P : Nodes) (p : ℕ) (m n : List ℕ) (r : Bool) : Type 0 where
-  pub answer : r ≡ (known (code P p) && (all_below p (operands P p) && distinct (operands P p ++ operands_below P p)))
-  pub marks : r ≡ true → Marked n (operands P p ++ operands_below P p)
+pub record Placed (P : Pool) (p : ℕ) (m n : List ℕ) (r : Bool) : Type 0 where
+  pub answer : r ≡ (known (code P p) && (all_below p (operands P p) && distinct (operands P p ++ used P p)))
+  pub marks : r ≡ true → Marked n (operands P p ++ used P p)
   pub long : r ≡ true → length n ≡ length m
 
 -- the nodes at the places below k were tested, and r is one of them that fails, or none fails
-pub record Passes (P : Nodes) (k r : ℕ) : Type 0 where
-  pub all : k ≤ r → (shaped P k && distinct (operands_below P k)) ≡ true
-  pub fails : r < k → (shaped P k && distinct (operands_below P k)) ≡ false
+pub record Passes (P : Pool) (k r : ℕ) : Type 0 where
+  pub all : k ≤ r → (shaped P k && distinct (used P k)) ≡ true
+  pub fails : r < k → (shaped P k && distinct (used P k)) ≡ false

@@ -1,10 +1,10 @@
 -- What a walk in a loop asks of the nodes that it goes over.
 use Rattle.std.specs.Prelude.{ℕ, ◌<◌, ◌≤◌, ◌≡◌, Bool, true, false, ◌&&◌, List, get_or, leb, ltb}
-use Rattle.rules.specs.Nodes.{not_node}
+use Rattle.rules.specs.Pool.{nay_node}
 
 -- a node with operands whose code is below an end
 abbrev pub above : ℕ → ℕ → Bool
-above c e = leb not_node c && ltb c e
+above c e = leb nay_node c && ltb c e
 
 -- the places above q, up to p, hold such nodes
 pub record Run (codes : List ℕ) (p e q : ℕ) : Type 0 where

@@ -1,7 +1,7 @@
 // The test that the nodes of a rule are a tree, place by place with a mark for each operand. A record can be altered, so every
 // plural lookup and every rating begins with it. And where a walk over them can go in a loop.
 ghost use Rattle.std.specs.Prelude.{◌≡◌, true, [], ◌+◌, ◌<◌, ◌≤◌, ◌*◌, length, get_or};
-ghost use Rattle.rules.specs.Nodes.{nodes_of, not_node, operands_below, shaped, is_tree};
+ghost use Rattle.rules.specs.Pool.{pool, nay_node, used, shaped, is_tree};
 ghost use Rattle.rules_tree.specs.Promise.{above, Stands};
 ghost use Rattle.rules_tree.specs.Private.{Unmarked, Marked, Took, Placed, Passes};
 
@@ -14,11 +14,11 @@ pub const CODES: u8 = node::TERNARY + 1;
 const FEW: usize = 64;
 
 // Whether the operand that field j of the node at p names lies below it and is no operand yet; it is marked as one then.
-fn takes<'a>(fields: &'a [u16; 1024], marks: &mut [u8], p: usize, j: usize) -> bool
+fn takes<'a>(places: &'a [u16; 1024], marks: &mut [u8], p: usize, j: usize) -> bool
     requires { (p < 512) × (j < 2) × (p < length marks.old) }
-    ensures { Took (get_or fields.now (2 * p + j) 0) p marks.old marks.new result }
+    ensures { Took (get_or places.now (2 * p + j) 0) p marks.old marks.new result }
 {
-    let q = place(fields, p, j);
+    let q = place(places, p, j);
     if p <= q {
         return false;
     }
@@ -30,10 +30,10 @@ fn takes<'a>(fields: &'a [u16; 1024], marks: &mut [u8], p: usize, j: usize) -> b
 }
 
 // Whether the node at p has a known code and takes all its operands. No node before it can have taken the place before it.
-fn is_node<'a>(codes: &'a [u8; 512], fields: &'a [u16; 1024], marks: &mut [u8], p: usize) -> bool
+fn is_node<'a>(codes: &'a [u8; 512], places: &'a [u16; 1024], marks: &mut [u8], p: usize) -> bool
     requires room { (p < 512) × (p < length marks.old) }
-    requires before { (shaped (nodes_of codes.now fields.now []) p ≡ true) × Marked marks.old (operands_below (nodes_of codes.now fields.now []) p) }
-    ensures { Placed (nodes_of codes.now fields.now []) p marks.old marks.new result }
+    requires before { (shaped (pool codes.now places.now []) p ≡ true) × Marked marks.old (used (pool codes.now places.now []) p) }
+    ensures { Placed (pool codes.now places.now []) p marks.old marks.new result }
 {
     let code = codes[p];
     if code < node::NOT {
@@ -43,10 +43,10 @@ fn is_node<'a>(codes: &'a [u8; 512], fields: &'a [u16; 1024], marks: &mut [u8], 
         return false;
     }
     marks[p - 1] = 1;
-    if code < node::PAIR_OP {
+    if code < node::OP {
         return true;
     }
-    if !takes(fields, marks, p, 0) {
+    if !takes(places, marks, p, 0) {
         return false;
     }
     if code < node::TERNARY {
@@ -55,22 +55,22 @@ fn is_node<'a>(codes: &'a [u8; 512], fields: &'a [u16; 1024], marks: &mut [u8], 
     if code != node::TERNARY {
         return false;
     }
-    takes(fields, marks, p, 1)
+    takes(places, marks, p, 1)
 }
 
 // The first place whose node fails, or the count. It is a place and no answer so that the loop carries one number only.
 fn passes<'a>(
     codes: &'a [u8; 512],
-    fields: &'a [u16; 1024],
+    places: &'a [u16; 1024],
     marks: &mut [u8],
     count: usize,
 ) -> usize
     requires { (count ≤ 512) × (count ≤ length marks.old) × Unmarked marks.old }
-    ensures { Passes (nodes_of codes.now fields.now []) count result }
+    ensures { Passes (pool codes.now places.now []) count result }
 {
     let mut p = 0;
     while p < count {
-        if is_node(codes, fields, marks, p) {
+        if is_node(codes, places, marks, p) {
             p += 1;
         } else {
             return p;
@@ -80,10 +80,10 @@ fn passes<'a>(
 }
 
 // Whether the nodes are a tree. The values are not looked at.
-pub fn is_tree<'a>(codes: &'a [u8; 512], fields: &'a [u16; 1024], count: usize, root: usize) -> bool
-    ensures { result ≡ is_tree (nodes_of codes.now fields.now []) count root }
+pub fn is_tree<'a>(codes: &'a [u8; 512], places: &'a [u16; 1024], count: usize, root: usize) -> bool
+    ensures { result ≡ is_tree (pool codes.now places.now []) count root }
 {
-    if rules::MOST_NODES < count {
+    if rules::MOST < count {
         return false;
     }
     if count <= root {
@@ -91,10 +91,10 @@ pub fn is_tree<'a>(codes: &'a [u8; 512], fields: &'a [u16; 1024], count: usize, 
     }
     if count <= FEW {
         let mut marks = [0u8; 64];
-        return count <= passes(codes, fields, &mut marks, count);
+        return count <= passes(codes, places, &mut marks, count);
     }
     let mut marks = [0u8; 512];
-    count <= passes(codes, fields, &mut marks, count)
+    count <= passes(codes, places, &mut marks, count)
 }
 
 // Whether a node has an operand, and its code is below an end.
@@ -111,7 +111,7 @@ fn is_above(code: u8, end: u8) -> bool
 // code below an end. So a walk goes up such a run in a loop and takes no stack for it: with the end `node::OP`, of nodes with one operand
 // only; with `CODES`, of all, and the run stands on a leaf.
 pub fn base<'a>(codes: &'a [u8; 512], at: usize, end: u8) -> usize
-    requires { (at < 512) × (get_or codes.now 0 0 < not_node) }
+    requires { (at < 512) × (get_or codes.now 0 0 < nay_node) }
     ensures { Stands codes.now at end result }
 {
     let mut p = at;

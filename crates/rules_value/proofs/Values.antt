@@ -1,4 +1,4 @@
--- The answers of an evaluation at a place of the nodes, as a number and a flag, by its code and its operands' values.
+-- The answers of an evaluation at a place of a pool, as a number and a flag, by its code and its operands' values.
 use mathlib.Core.Path.{◌≡◌, refl, sym, ap, ◌∙◌}
 use mathlib.Core.Bool.{Bool, true, false}
 use mathlib.Core.List.{List}
@@ -12,10 +12,10 @@ use lib.Dec.{eqb}
 use borrow.Author.Tests.{le-leb, lt-ltb, le-ltb, ne_eqb}
 use Rattle.rules.specs.declared.Value.{Value}
 use Rattle.rules.specs.declared.Value.TheVariants.{Is}
-use Rattle.rules.specs.Tree.{Tree, modulo}
+use Rattle.rules.specs.Tree.{Tree, rem}
 use Rattle.rules.specs.Value.{truth, binary, eval_tree}
 use Rattle.rules.specs.Operator.{op_of, op_at, Named}
-use Rattle.rules.specs.Nodes.{Nodes, code, field, value, leaf, one, two, tree_of, n_op, rest_op, not_node, value_op, pair_op, choice_node, ternary_node}
+use Rattle.rules.specs.Pool.{Pool, code, field, value, leaf, one, two, tree_of, n_op, rest_op, nay_node, value_op, pair_op, choice_node, ternary_node}
 use Rattle.rules.specs.Promise.{Sound}
 use Rattle.rules_operators.specs.Operator.{settled, settled_by, Gives, Applies}
 use Rattle.rules_operators.proofs.Given.{number, negation, first_arm, second_arm, left_alone, both, by_left}
@@ -27,7 +27,7 @@ use Rattle.rules_value.specs.Private.{Lifts}
 settles : (i x : ℕ) {s b : Bool} (k : Named i) → s ≡ settled_by (op_of i) x → s ≡ b → settled k.op x ≡ b
 settles i x k e d = ap (λ o. settled_by o x) (sym k.is) ∙ sym e ∙ d
 
-module _ (P : Nodes) (p n : ℕ) where
+module _ (P : Pool) (p n : ℕ) where
   abbrev ev : ℕ → Value
   ev q = eval_tree (tree_of P q) n
 
@@ -50,26 +50,26 @@ module _ (P : Nodes) (p n : ℕ) where
   unfolding eval_tree
   at_op d h g = let k = named (code P p - n_op) (omega arith) in rw (tree_leaf P p (omega arith), leaf_op (code P p) (field P p 0) (value P p) k.is d h) (g.gives k.op k.is)
 
-  pub at_rest : {b c d : Bool} {m x r : ℕ} → rest_op ≤ code P p → code P p < not_node → m ≡ field P p 0 → Applies 8 n m b c x
+  pub at_rest : {b c d : Bool} {m x r : ℕ} → rest_op ≤ code P p → code P p < nay_node → m ≡ field P p 0 → Applies 8 n m b c x
       → Applies (code P p - rest_op) x (value P p) c d r → Gives (ev p) b d r
   unfolding eval_tree op_of op_at
   at_rest h l e g w =
       let k = named (code P p - rest_op) (omega arith) in
       rw (tree_leaf P p l, leaf_rest (code P p) (field P p 0) (value P p) k.is h)
-      (by_left k.op (binary modulo (Is n) (Is (field P p 0))) (value P p) (rw e at (g.gives modulo refl)) (w.gives k.op k.is))
+      (by_left k.op (binary rem (Is n) (Is (field P p 0))) (value P p) (rw e at (g.gives rem refl)) (w.gives k.op k.is))
 
   module _ {b c : Bool} {x : ℕ} (a : p - 1 < p) (g : Gives (ev (p - 1)) b c x) where
-    pub at_nay : {r : ℕ} → code P p ≡ not_node → r ≡ truth (eqb x 0) → Gives (ev p) b c r
+    pub at_nay : {r : ℕ} → code P p ≡ nay_node → r ≡ truth (eqb x 0) → Gives (ev p) b c r
     unfolding eval_tree
     at_nay h e = rw (tree_one P p (omega arith) (omega arith) a, h) (negation _ g e)
 
-    pub at_other : {r : ℕ} → not_node < code P p → code P p < value_op → x ≡ 0 → r ≡ field P p 0 → Gives (ev p) b c r
+    pub at_other : {r : ℕ} → nay_node < code P p → code P p < value_op → x ≡ 0 → r ≡ field P p 0 → Gives (ev p) b c r
     unfolding eval_tree
-    at_other h l z e = rw (tree_one P p (omega arith) (omega arith) a, one, ne_eqb (code P p) not_node (omega arith), lt-ltb (code P p) value_op l) (second_arm _ _ _ g z (number refl e))
+    at_other h l z e = rw (tree_one P p (omega arith) (omega arith) a, one, ne_eqb (code P p) nay_node (omega arith), lt-ltb (code P p) value_op l) (second_arm _ _ _ g z (number refl e))
 
-    pub at_value : {r : ℕ} → not_node < code P p → code P p < value_op → (x ≡ 0 → ⊥) → r ≡ value P p → Gives (ev p) b c r
+    pub at_value : {r : ℕ} → nay_node < code P p → code P p < value_op → (x ≡ 0 → ⊥) → r ≡ value P p → Gives (ev p) b c r
     unfolding eval_tree
-    at_value h l z e = rw (tree_one P p (omega arith) (omega arith) a, one, ne_eqb (code P p) not_node (omega arith), lt-ltb (code P p) value_op l) (first_arm _ _ _ g z (number refl e))
+    at_value h l z e = rw (tree_one P p (omega arith) (omega arith) a, one, ne_eqb (code P p) nay_node (omega arith), lt-ltb (code P p) value_op l) (first_arm _ _ _ g z (number refl e))
 
     pub at_one : {d : Bool} {r : ℕ} → value_op ≤ code P p → code P p < pair_op → Applies (code P p - value_op) x (value P p) c d r → Gives (ev p) b d r
     unfolding eval_tree
@@ -111,17 +111,17 @@ module _ (P : Nodes) (p n : ℕ) where
         (both _ _ _ g (settles (code P p - pair_op) x k e i) m (w.gives k.op k.is))
 
 -- from a place on
-pub lift_more : {P : Nodes} {p q r x y z : ℕ} {c d e : Bool} → r - 1 ≡ q → Lifts P p q x c d y → Lifts P (r - 1) r y d e z → Lifts P p r x c e z
+pub lift_more : {P : Pool} {p q r x y z : ℕ} {c d e : Bool} → r - 1 ≡ q → Lifts P p q x c d y → Lifts P (r - 1) r y d e z → Lifts P p r x c e z
 lift_more f k l = record { gives = λ n b g. l.gives n b (rw f (k.gives n b g)) }
 
 -- the same for the other of the two functions
-pub lower : {P : Nodes} {q t : ℕ} → (2 * q + 1 < t) × Sound P q → (2 * q < t) × Sound P q
+pub lower : {P : Pool} {q t : ℕ} → (2 * q + 1 < t) × Sound P q → (2 * q < t) × Sound P q
 lower (l, s) = (omega arith, s)
 
 -- a run with one more node
-pub topped : {codes : List ℕ} {p q : ℕ} → p - 1 < p → Run codes (p - 1) pair_op q → not_node ≤ get_or codes p 0 → get_or codes p 0 < pair_op → Run codes p pair_op q
+pub topped : {codes : List ℕ} {p q : ℕ} → p - 1 < p → Run codes (p - 1) pair_op q → nay_node ≤ get_or codes p 0 → get_or codes p 0 < pair_op → Run codes p pair_op q
 topped {codes} {p} a r h l =
     record {
       below = omega (arith, r.below);
-      all = λ i j k. ⊎_elim (λ (e : i ≡ p). rw (e, le-leb not_node (get_or codes p 0) h, lt-ltb (get_or codes p 0) pair_op l)) (λ m. r.all i j (omega arith)) (eq-or-lt_of_le k);
+      all = λ i j k. ⊎_elim (λ (e : i ≡ p). rw (e, le-leb nay_node (get_or codes p 0) h, lt-ltb (get_or codes p 0) pair_op l)) (λ m. r.all i j (omega arith)) (eq-or-lt_of_le k);
     }

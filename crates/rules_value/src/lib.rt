@@ -1,7 +1,7 @@
 // The value of a plural rule at a count. A port of plurals.rs: `resolve`.
 ghost use Rattle.std.specs.Prelude.{◌≡◌, true, ◌<◌, ◌+◌, ◌-◌, ◌*◌, get_or};
 ghost use Rattle.rules.specs.Value.{eval_tree};
-ghost use Rattle.rules.specs.Nodes.{nodes_of, tree_of, not_node, pair_op};
+ghost use Rattle.rules.specs.Pool.{pool, tree_of, nay_node, pair_op};
 ghost use Rattle.rules.specs.Promise.{Sound};
 ghost use Rattle.rules.specs.Answer.{resolved_of};
 ghost use Rattle.rules_operators.specs.Operator.{Gives};
@@ -13,25 +13,25 @@ use rules_operators::{apply, settles, truth};
 use rules_tree::base;
 
 // The integer in the first field of the node at a place.
-fn small<'a>(fields: &'a [u16; 1024], at: usize) -> u64
+fn small<'a>(places: &'a [u16; 1024], at: usize) -> u64
     requires { at < 512 }
-    ensures { result ≡ get_or fields.now (2 * at + 0) 0 }
+    ensures { result ≡ get_or places.now (2 * at + 0) 0 }
 {
-    field(fields, at, 0) as u64
+    field(places, at, 0) as u64
 }
 
 // The value of a node that has no operand.
 fn leaf<'a>(
     codes: &'a [u8; 512],
-    fields: &'a [u16; 1024],
+    places: &'a [u16; 1024],
     values: &'a [u64; 512],
     at: usize,
     n: u64,
     zero: &mut bool,
 ) -> u64
-    requires sound { Sound (nodes_of codes.now fields.now values.now) at }
-    requires leaf { get_or codes.now at 0 < not_node }
-    ensures { Gives (eval_tree (tree_of (nodes_of codes.now fields.now values.now) at) n)
+    requires sound { Sound (pool codes.now places.now values.now) at }
+    requires leaf { get_or codes.now at 0 < nay_node }
+    ensures { Gives (eval_tree (tree_of (pool codes.now places.now values.now) at) n)
         zero.old zero.new result }
 {
     let code = codes[at];
@@ -45,22 +45,22 @@ fn leaf<'a>(
     if code < node::REST_OP {
         return apply(code - node::N_OP, n, v, zero);
     }
-    let x = apply(node::MODULO, n, small(fields, at), zero);
+    let x = apply(node::MODULO, n, small(places, at), zero);
     apply(code - node::REST_OP, x, v, zero)
 }
 
 // The value of a node with one operand, by its operand's.
 fn one<'a>(
     codes: &'a [u8; 512],
-    fields: &'a [u16; 1024],
+    places: &'a [u16; 1024],
     values: &'a [u64; 512],
     at: usize,
     x: u64,
     zero: &mut bool,
 ) -> u64
-    requires sound { Sound (nodes_of codes.now fields.now values.now) at }
+    requires sound { Sound (pool codes.now places.now values.now) at }
     requires one { above (get_or codes.now at 0) pair_op ≡ true }
-    ensures { Lifts (nodes_of codes.now fields.now values.now) (at - 1) at
+    ensures { Lifts (pool codes.now places.now values.now) (at - 1) at
         x zero.old zero.new result }
 {
     let code = codes[at];
@@ -69,7 +69,7 @@ fn one<'a>(
     }
     if code < node::VALUE_OP {
         if x == 0 {
-            return small(fields, at);
+            return small(places, at);
         }
         return values[at];
     }
@@ -79,23 +79,23 @@ fn one<'a>(
 // The value of the last of a run of nodes with one operand, by the value of the node that the run stands on.
 fn up<'a>(
     codes: &'a [u8; 512],
-    fields: &'a [u16; 1024],
+    places: &'a [u16; 1024],
     values: &'a [u64; 512],
     base: usize,
     at: usize,
     x: u64,
     zero: &mut bool,
 ) -> u64
-    requires sound { Sound (nodes_of codes.now fields.now values.now) at }
+    requires sound { Sound (pool codes.now places.now values.now) at }
     requires run { Run codes.now at pair_op base }
-    ensures { Lifts (nodes_of codes.now fields.now values.now) base at
+    ensures { Lifts (pool codes.now places.now values.now) base at
         x zero.old zero.new result }
 {
     let mut p = base;
     let mut y = x;
     while p < at {
         p += 1;
-        y = one(codes, fields, values, p, y, zero);
+        y = one(codes, places, values, p, y, zero);
     }
     y
 }
@@ -104,24 +104,24 @@ fn up<'a>(
 #[cycle(eval_operand)]
 fn operand<'a>(
     codes: &'a [u8; 512],
-    fields: &'a [u16; 1024],
+    places: &'a [u16; 1024],
     values: &'a [u64; 512],
     at: usize,
     n: u64,
     zero: &mut bool,
 ) -> u64
-    requires { Sound (nodes_of codes.now fields.now values.now) at }
-    ensures { Gives (eval_tree (tree_of (nodes_of codes.now fields.now values.now) at) n)
+    requires { Sound (pool codes.now places.now values.now) at }
+    ensures { Gives (eval_tree (tree_of (pool codes.now places.now values.now) at) n)
         zero.old zero.new result }
 {
     if codes[at] < node::NOT {
-        return leaf(codes, fields, values, at, n, zero);
+        return leaf(codes, places, values, at, n, zero);
     }
-    eval(codes, fields, values, at, n, zero)
+    eval(codes, places, values, at, n, zero)
 }
 
-// The value of the tree at a place. A remainder or quotient by zero that is met sets the flag, and the walk goes on: whatever is met is
-// needed, so no number counts then.
+// The value of the tree at a place. A remainder by zero that is met sets the flag, and the walk goes on: whatever is met is needed, so
+// no number counts then.
 //
 // It takes a frame of the stack for a node with two or three operands, and one for a run of nodes with one. The first has another operand
 // beside the one that is walked, the second stands on one of the first or on a leaf, and no place is an operand twice: two frames have
@@ -129,55 +129,55 @@ fn operand<'a>(
 #[cycle(eval_operand)]
 fn eval<'a>(
     codes: &'a [u8; 512],
-    fields: &'a [u16; 1024],
+    places: &'a [u16; 1024],
     values: &'a [u64; 512],
     at: usize,
     n: u64,
     zero: &mut bool,
 ) -> u64
-    requires { Sound (nodes_of codes.now fields.now values.now) at }
-    ensures { Gives (eval_tree (tree_of (nodes_of codes.now fields.now values.now) at) n)
+    requires { Sound (pool codes.now places.now values.now) at }
+    ensures { Gives (eval_tree (tree_of (pool codes.now places.now values.now) at) n)
         zero.old zero.new result }
 {
     let code = codes[at];
     if code < node::NOT {
-        return leaf(codes, fields, values, at, n, zero);
+        return leaf(codes, places, values, at, n, zero);
     }
-    if code < node::PAIR_OP {
-        let base = base(codes, at - 1, node::PAIR_OP);
-        let x = operand(codes, fields, values, base, n, zero);
-        return up(codes, fields, values, base, at, x, zero);
+    if code < node::OP {
+        let base = base(codes, at - 1, node::OP);
+        let x = operand(codes, places, values, base, n, zero);
+        return up(codes, places, values, base, at, x, zero);
     }
-    let x = operand(codes, fields, values, place(fields, at, 0), n, zero);
+    let x = operand(codes, places, values, place(places, at, 0), n, zero);
     if node::CHOICE <= code {
         if x == 0 {
-            return eval(codes, fields, values, at - 1, n, zero);
+            return eval(codes, places, values, at - 1, n, zero);
         }
         if code < node::TERNARY {
             return values[at];
         }
-        return eval(codes, fields, values, place(fields, at, 1), n, zero);
+        return eval(codes, places, values, place(places, at, 1), n, zero);
     }
-    if settles(code - node::PAIR_OP, x) {
-        return apply(code - node::PAIR_OP, x, 0, zero);
+    if settles(code - node::OP, x) {
+        return apply(code - node::OP, x, 0, zero);
     }
-    let y = eval(codes, fields, values, at - 1, n, zero);
-    apply(code - node::PAIR_OP, x, y, zero)
+    let y = eval(codes, places, values, at - 1, n, zero);
+    apply(code - node::OP, x, y, zero)
 }
 
 // The value of the tree at a place at a count, of nodes that passed the test.
 pub fn value_at<'a>(
     codes: &'a [u8; 512],
-    fields: &'a [u16; 1024],
+    places: &'a [u16; 1024],
     values: &'a [u64; 512],
     at: usize,
     n: u64,
 ) -> Value
-    requires { Sound (nodes_of codes.now fields.now values.now) at }
-    ensures { result ≡ eval_tree (tree_of (nodes_of codes.now fields.now values.now) at) n }
+    requires { Sound (pool codes.now places.now values.now) at }
+    ensures { result ≡ eval_tree (tree_of (pool codes.now places.now values.now) at) n }
 {
     let mut zero = false;
-    let x = eval(codes, fields, values, at, n, &mut zero);
+    let x = eval(codes, places, values, at, n, &mut zero);
     if zero {
         return Value::ZeroModulus;
     }
@@ -187,18 +187,18 @@ pub fn value_at<'a>(
 // The value of a rule at a count.
 pub fn resolve<'a>(
     codes: &'a [u8; 512],
-    fields: &'a [u16; 1024],
+    places: &'a [u16; 1024],
     values: &'a [u64; 512],
     count: usize,
     root: usize,
     n: u64,
 ) -> Resolved
-    ensures { result ≡ resolved_of (nodes_of codes.now fields.now values.now) count root n }
+    ensures { result ≡ resolved_of (pool codes.now places.now values.now) count root n }
 {
-    if !rules_tree::is_tree(codes, fields, count, root) {
+    if !rules_tree::is_tree(codes, places, count, root) {
         return Resolved::NoTree;
     }
-    let value = value_at(codes, fields, values, root, n);
+    let value = value_at(codes, places, values, root, n);
     match value {
         Value::Is(x) => Resolved::Form(x),
         Value::ZeroModulus => Resolved::ZeroModulus,

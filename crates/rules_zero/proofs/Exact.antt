@@ -12,10 +12,10 @@ use lib.Dec.{ltb, eqb}
 use borrow.Author.Tests.{lt-ltb, le-ltb, ltb-true, ltb-false, eq-eqb, ne_eqb, eqb-true}
 use Rattle.rules.specs.declared.Value.{Value}
 use Rattle.rules.specs.declared.Value.TheVariants.{Is, ZeroModulus}
-use Rattle.rules.specs.Tree.{Tree, var, int, negate, bin, cond, Op, cmp, calc, and, or, modulo, divide}
+use Rattle.rules.specs.Tree.{Tree, var, int, nay, bin, cond, Op, cmp, calc, and, or, rem, div}
 use Rattle.rules.specs.Value.{pick_v, truth_v, binary, negated, chosen, eval_tree}
 use Rattle.rules.specs.Operator.{op_of, Named}
-use Rattle.rules.specs.Nodes.{Nodes, code, field, value, tree_of, leaf, one, two, member, n_op, rest_op, not_node, pick_node, value_op, pair_op, choice_node, ternary_node}
+use Rattle.rules.specs.Pool.{Pool, code, field, value, tree_of, leaf, one, two, member, n_op, rest_op, nay_node, pick_node, value_op, pair_op, choice_node, ternary_node}
 use Rattle.rules.specs.Promise.{Sound}
 use Rattle.rules.proofs.Operators.{never, named}
 use Rattle.rules.proofs.Trees.{member_head, before_in, first_in, second_in, tree_leaf, tree_one, tree_two, tree_three, leaf_op, leaf_rest, one_op, two_op, down}
@@ -30,19 +30,19 @@ is_division (cmp k) = false
 is_division (calc c) = false
 is_division and = false
 is_division or = false
-is_division modulo = true
-is_division divide = true
+is_division rem = true
+is_division div = true
 
 -- evaluation at n of the tree at p gets to the node at q
-pub data Reaches (P : Nodes) (n : ℕ) : ℕ → ℕ → Type 0 where
+pub data Reaches (P : Pool) (n : ℕ) : ℕ → ℕ → Type 0 where
   here : {p : ℕ} → Reaches P n p p
   on : {p r q : ℕ} → member r (reached P n p) ≡ true → Reaches P n r q → Reaches P n p q
 
 -- the node at q divides by zero: it is a % or /, and its operands have values, of which the right one's is 0; or it is a packed n % m op v
 -- whose m is 0
-pub data Divides (P : Nodes) (n q : ℕ) : Type 0 where
+pub data Divides (P : Pool) (n q : ℕ) : Type 0 where
   own : (op : Op) (s t : Tree) (x : ℕ) → tree_of P q ≡ bin op s t → is_division op ≡ true → eval_tree s n ≡ Is x → eval_tree t n ≡ Is 0 → Divides P n q
-  rest : rest_op ≤ code P q → code P q < not_node → field P q 0 ≡ 0 → Divides P n q
+  rest : rest_op ≤ code P q → code P q < nay_node → field P q 0 ≡ 0 → Divides P n q
 
 no : {A : Type 0} {x : ℕ} → Is x ≡ ZeroModulus → A
 no e = let z : ◌≡◌ {A = ℕ} 0 1 = cc in absurd (omega arith)
@@ -62,12 +62,12 @@ binary_zero or x y e = go (eqb x 0) e
     go : (b : Bool) → pick_v b (truth_v (Is y)) (Is 1) ≡ ZeroModulus → (false ≡ true) × (y ≡ 0)
     go true d = no d
     go false d = no d
-binary_zero modulo x y e = go (eqb y 0) refl e
+binary_zero rem x y e = go (eqb y 0) refl e
   where
     go : (b : Bool) → eqb y 0 ≡ b → pick_v b ZeroModulus (Is (x % y)) ≡ ZeroModulus → (true ≡ true) × (y ≡ 0)
     go true d f = (refl, eqb-true y 0 d)
     go false d f = no f
-binary_zero divide x y e = go (eqb y 0) refl e
+binary_zero div x y e = go (eqb y 0) refl e
   where
     go : (b : Bool) → eqb y 0 ≡ b → pick_v b ZeroModulus (Is (x / y)) ≡ ZeroModulus → (true ≡ true) × (y ≡ 0)
     go true d f = (refl, eqb-true y 0 d)
@@ -80,8 +80,8 @@ divided (cmp k) x e = never e
 divided (calc c) x e = never e
 divided and x e = never e
 divided or x e = never e
-divided modulo x e = refl
-divided divide x e = refl
+divided rem x e = refl
+divided div x e = refl
 
 -- what is settled by its left operand is no % or /
 settled_value : (op : Op) (x : ℕ) (v : Value) → settled op x ≡ true → binary op (Is x) v ≡ ZeroModulus → ⊥
@@ -90,8 +90,8 @@ settled_value (cmp k) x v e f = never e
 settled_value (calc c) x v e f = never e
 settled_value and x v e f = never (binary_zero and x 0 (sym (settled_any and x v e) ∙ f)).0
 settled_value or x v e f = never (binary_zero or x 0 (sym (settled_any or x v e) ∙ f)).0
-settled_value modulo x v e f = never e
-settled_value divide x v e f = never e
+settled_value rem x v e f = never e
+settled_value div x v e f = never e
 
 same_left : {o q : Op} {s t u v : Tree} → bin o s t ≡ bin q u v → s ≡ u
 same_left e = cc
@@ -127,7 +127,7 @@ in_second a b = go (eqb b a)
     go true = refl
     go false = member_head b b [] refl
 
-module _ (P : Nodes) (n p : ℕ) where
+module _ (P : Pool) (n p : ℕ) where
   -- a node whose operands have values as far as evaluation gets to them; and one of which the last of them has none
   data Case : Type 0 where
     whole : step_of P n p ≡ p → ((r : ℕ) → member r (reached P n p) ≡ true → value_at P n r ≡ ZeroModulus → ⊥)
@@ -165,18 +165,18 @@ module _ (P : Nodes) (n p : ℕ) where
       (λ r m f. ⊎_elim (λ k. clash v (rw k at f)) (λ k. k) (member_two a b r (rw e at m))) z d
 
   -- the operands that evaluation gets to, by the code
-  reached_none : code P p < not_node → reached P n p ≡ []
+  reached_none : code P p < nay_node → reached P n p ≡ []
   unfolding reached
-  reached_none h = rw (reached, lt-ltb (code P p) not_node h)
+  reached_none h = rw (reached, lt-ltb (code P p) nay_node h)
 
-  reached_one : not_node ≤ code P p → code P p < pair_op → reached P n p ≡ (p - 1) ∷ []
+  reached_one : nay_node ≤ code P p → code P p < pair_op → reached P n p ≡ (p - 1) ∷ []
   unfolding reached
-  reached_one h l = rw (reached, le-ltb (code P p) not_node h, lt-ltb (code P p) pair_op l)
+  reached_one h l = rw (reached, le-ltb (code P p) nay_node h, lt-ltb (code P p) pair_op l)
 
   reached_by : {v : Value} → pair_op ≤ code P p → value_at P n (field P p 0) ≡ v → reached P n p ≡ field P p 0 ∷ second P p v
   unfolding reached
   reached_by h e =
-      rw (reached, le-ltb (code P p) not_node (omega arith), le-ltb (code P p) pair_op h) (ap (λ (v : Value). field P p 0 ∷ second P p v) e)
+      rw (reached, le-ltb (code P p) nay_node (omega arith), le-ltb (code P p) pair_op h) (ap (λ (v : Value). field P p 0 ∷ second P p v) e)
 
   reached_settled : {x : ℕ} → pair_op ≤ code P p → value_at P n (field P p 0) ≡ Is x → code P p < choice_node → settled_by (op_of (code P p - pair_op)) x ≡ true
       → reached P n p ≡ field P p 0 ∷ []
@@ -196,19 +196,19 @@ module _ (P : Nodes) (n p : ℕ) where
   reached_yes h e z = reached_by (omega arith) e ∙ rw (second, le-ltb (code P p) choice_node (omega arith), z, le-ltb (code P p) ternary_node h)
 
   -- a node that is no binary operator, or an operand of which has no value, does not itself divide by zero
-  not_nay : {b : Tree} → not_node ≤ code P p → tree_of P p ≡ negate b → Divides P n p → ⊥
+  not_nay : {b : Tree} → nay_node ≤ code P p → tree_of P p ≡ nay b → Divides P n p → ⊥
   not_nay h e (own op s t x is d v w) = let k = sym e ∙ is in let z : ◌≡◌ {A = ℕ} 0 1 = cc in omega arith
   not_nay h e (rest l m z) = omega arith
 
-  not_cond : {a b c : Tree} → not_node ≤ code P p → tree_of P p ≡ cond a b c → Divides P n p → ⊥
+  not_cond : {a b c : Tree} → nay_node ≤ code P p → tree_of P p ≡ cond a b c → Divides P n p → ⊥
   not_cond h e (own op s t x is d v w) = let k = sym e ∙ is in let z : ◌≡◌ {A = ℕ} 0 1 = cc in omega arith
   not_cond h e (rest l m z) = omega arith
 
-  not_left : {o : Op} {a b : Tree} → not_node ≤ code P p → tree_of P p ≡ bin o a b → eval_tree a n ≡ ZeroModulus → Divides P n p → ⊥
+  not_left : {o : Op} {a b : Tree} → nay_node ≤ code P p → tree_of P p ≡ bin o a b → eval_tree a n ≡ ZeroModulus → Divides P n p → ⊥
   not_left h e f (own op s t x is d v w) = let k = same_left (sym e ∙ is) in clash v (rw k at f)
   not_left h e f (rest l m z) = omega arith
 
-  not_right : {o : Op} {a b : Tree} → not_node ≤ code P p → tree_of P p ≡ bin o a b → eval_tree b n ≡ ZeroModulus → Divides P n p → ⊥
+  not_right : {o : Op} {a b : Tree} → nay_node ≤ code P p → tree_of P p ≡ bin o a b → eval_tree b n ≡ ZeroModulus → Divides P n p → ⊥
   not_right h e f (own op s t x is d v w) = let k = same_right (sym e ∙ is) in clash w (rw k at f)
   not_right h e f (rest l m z) = omega arith
 
@@ -245,7 +245,7 @@ module _ (P : Nodes) (n p : ℕ) where
         its_value t (ap (λ (u : Value). chosen u (eval_tree y n) (eval_tree b n)) e ∙ ap (λ (c : Bool). pick_v c (eval_tree b n) (eval_tree y n)) d)
 
   module _ (s : Sound P p) where
-    leaf_case : code P p < not_node → Case
+    leaf_case : code P p < nay_node → Case
     unfolding eval_tree binary
     leaf_case h = whole_none (reached_none h) (λ f. low (ltb (code P p) n_op) refl f)
       where
@@ -270,12 +270,12 @@ module _ (P : Nodes) (n p : ℕ) where
             absurd (number (eqb (code P p) 0) (sym (its_value (is_plain (ltb-true (code P p) n_op e)) refl) ∙ f))
         low false e f = high (ltb (code P p) rest_op) (ltb-false (code P p) n_op e) refl f
 
-    is_nay : code P p ≡ not_node → tree_of P p ≡ negate (tree_of P (p - 1))
-    is_nay h = tree_one P p (omega arith) (omega arith) (before_in s (omega arith)) ∙ rw (one, eq-eqb (code P p) not_node h)
+    is_nay : code P p ≡ nay_node → tree_of P p ≡ nay (tree_of P (p - 1))
+    is_nay h = tree_one P p (omega arith) (omega arith) (before_in s (omega arith)) ∙ rw (one, eq-eqb (code P p) nay_node h)
 
-    is_pick : not_node < code P p → code P p < value_op → tree_of P p ≡ cond (tree_of P (p - 1)) (int (value P p)) (int (field P p 0))
+    is_pick : nay_node < code P p → code P p < value_op → tree_of P p ≡ cond (tree_of P (p - 1)) (int (value P p)) (int (field P p 0))
     is_pick h l =
-        tree_one P p (omega arith) (omega arith) (before_in s (omega arith)) ∙ rw (one, ne_eqb (code P p) not_node (omega arith), lt-ltb (code P p) value_op l)
+        tree_one P p (omega arith) (omega arith) (before_in s (omega arith)) ∙ rw (one, ne_eqb (code P p) nay_node (omega arith), lt-ltb (code P p) value_op l)
 
     is_one : value_op ≤ code P p → code P p < pair_op → (k : Named (code P p - value_op)) → tree_of P p ≡ bin k.op (tree_of P (p - 1)) (int (value P p))
     is_one h l k =
@@ -293,14 +293,14 @@ module _ (P : Nodes) (n p : ℕ) where
     is_three : ternary_node ≤ code P p → tree_of P p ≡ cond (tree_of P (field P p 0)) (tree_of P (field P p 1)) (tree_of P (p - 1))
     is_three h = tree_three P p h (before_in s (omega arith)) (first_in s (omega arith)) (second_in s h)
 
-    nay_case : (v : Value) → code P p ≡ not_node → value_at P n (p - 1) ≡ v → Case
+    nay_case : (v : Value) → code P p ≡ nay_node → value_at P n (p - 1) ≡ v → Case
     unfolding eval_tree negated
     nay_case (Is x) h e =
         whole_one (reached_one (omega arith) (omega arith)) e (λ f. clash (its_value (is_nay h) (ap negated e)) f)
     nay_case ZeroModulus h e =
         broken_one (reached_one (omega arith) (omega arith)) e (before_in s (omega arith)) (its_value (is_nay h) (ap negated e)) (not_nay (omega arith) (is_nay h))
 
-    pick_case : (v : Value) → not_node < code P p → code P p < value_op → value_at P n (p - 1) ≡ v → Case
+    pick_case : (v : Value) → nay_node < code P p → code P p < value_op → value_at P n (p - 1) ≡ v → Case
     unfolding eval_tree chosen
     pick_case (Is x) h l e =
         whole_one (reached_one (omega arith) (omega arith)) e
@@ -378,7 +378,7 @@ module _ (P : Nodes) (n p : ℕ) where
         go false d = yes_case (value_at P n (field P p 1)) h e d refl
 
     case_of : Case
-    case_of = at_nay (ltb (code P p) not_node) refl
+    case_of = at_nay (ltb (code P p) nay_node) refl
       where
         at_ternary : (b : Bool) → choice_node ≤ code P p → ltb (code P p) ternary_node ≡ b → Case
         at_ternary true h e = choice_case (value_at P n (field P p 0)) h (ltb-true (code P p) ternary_node e) refl
@@ -392,17 +392,17 @@ module _ (P : Nodes) (n p : ℕ) where
         at_pair true h e = let l = ltb-true (code P p) pair_op e in one_case (value_at P n (p - 1)) h l (named _ (omega arith)) refl
         at_pair false h e = at_choice (ltb (code P p) choice_node) (ltb-false (code P p) pair_op e) refl
 
-        at_value : (b : Bool) → not_node < code P p → ltb (code P p) value_op ≡ b → Case
+        at_value : (b : Bool) → nay_node < code P p → ltb (code P p) value_op ≡ b → Case
         at_value true h e = pick_case (value_at P n (p - 1)) h (ltb-true (code P p) value_op e) refl
         at_value false h e = at_pair (ltb (code P p) pair_op) (ltb-false (code P p) value_op e) refl
 
-        at_pick : (b : Bool) → not_node ≤ code P p → ltb (code P p) pick_node ≡ b → Case
+        at_pick : (b : Bool) → nay_node ≤ code P p → ltb (code P p) pick_node ≡ b → Case
         at_pick true h e = let l = ltb-true (code P p) pick_node e in nay_case (value_at P n (p - 1)) (omega arith) refl
         at_pick false h e = at_value (ltb (code P p) value_op) (ltb-false (code P p) pick_node e) refl
 
-        at_nay : (b : Bool) → ltb (code P p) not_node ≡ b → Case
-        at_nay true e = leaf_case (ltb-true (code P p) not_node e)
-        at_nay false e = at_pick (ltb (code P p) pick_node) (ltb-false (code P p) not_node e) refl
+        at_nay : (b : Bool) → ltb (code P p) nay_node ≡ b → Case
+        at_nay true e = leaf_case (ltb-true (code P p) nay_node e)
+        at_nay false e = at_pick (ltb (code P p) pick_node) (ltb-false (code P p) nay_node e) refl
 
     divides_fails : Divides P n p → value_at P n p ≡ ZeroModulus
     unfolding eval_tree binary
@@ -444,53 +444,53 @@ module _ (P : Nodes) (n p : ℕ) where
 
     reached_low : {r : ℕ} → member r (reached P n p) ≡ true → r < p
     unfolding member
-    reached_low {r} m = at_nay (ltb (code P p) not_node) refl
+    reached_low {r} m = at_nay (ltb (code P p) nay_node) refl
       where
-        at_pair : (b : Bool) → not_node ≤ code P p → ltb (code P p) pair_op ≡ b → r < p
+        at_pair : (b : Bool) → nay_node ≤ code P p → ltb (code P p) pair_op ≡ b → r < p
         at_pair true h e =
             let z = member_one (p - 1) r (rw (reached_one h (ltb-true (code P p) pair_op e)) at m) in
             omega (arith, before_in s h)
         at_pair false h e = let l = ltb-false (code P p) pair_op e in low_second (value_at P n (field P p 0)) l (rw (reached_by l refl) at m)
 
-        at_nay : (b : Bool) → ltb (code P p) not_node ≡ b → r < p
-        at_nay true e = never (rw (reached_none (ltb-true (code P p) not_node e)) at m)
-        at_nay false e = at_pair (ltb (code P p) pair_op) (ltb-false (code P p) not_node e) refl
+        at_nay : (b : Bool) → ltb (code P p) nay_node ≡ b → r < p
+        at_nay true e = never (rw (reached_none (ltb-true (code P p) nay_node e)) at m)
+        at_nay false e = at_pair (ltb (code P p) pair_op) (ltb-false (code P p) nay_node e) refl
 
 -- evaluation at n of the tree at p gets to the node at q, which divides by zero
-pub record Meets (P : Nodes) (n p q : ℕ) : Type 0 where
+pub record Meets (P : Pool) (n p q : ℕ) : Type 0 where
   pub gets : Reaches P n p q
   pub divides : Divides P n q
 
-met_by : (P : Nodes) (n p : ℕ) → Sound P p → value_at P n p ≡ ZeroModulus
+met_by : (P : Pool) (n p : ℕ) → Sound P p → value_at P n p ≡ ZeroModulus
     → ((q : ℕ) → q < p → Sound P q → value_at P n q ≡ ZeroModulus → Meets P n q (zero_at P n q)) → Case P n p → Meets P n p (zero_at P n p)
 met_by P n p s v r (whole st vs d) = rw (← zero_here P n p st) (record { gets = here; divides = d v })
 met_by P n p s v r (broken q st l m f only z no) =
     let k = r q l (down s refl l refl).1 f in
     rw (zero_on P n p s (sym st) (λ e. omega arith)) (record { gets = on m k.gets; divides = k.divides })
 
-met_to : (P : Nodes) (n f p : ℕ) → p < f → Sound P p → value_at P n p ≡ ZeroModulus → Meets P n p (zero_at P n p)
+met_to : (P : Pool) (n f p : ℕ) → p < f → Sound P p → value_at P n p ≡ ZeroModulus → Meets P n p (zero_at P n p)
 met_to P n zero p h s v = absurd (omega arith)
 met_to P n (suc f) p h s v = met_by P n p s v (λ q l w t. met_to P n f q (omega arith) w t) (case_of P n p s)
 
 -- where the tree has no value, the node that is told is such a one
-pub zero_met : (P : Nodes) (n p : ℕ) → Sound P p → value_at P n p ≡ ZeroModulus → Meets P n p (zero_at P n p)
+pub zero_met : (P : Pool) (n p : ℕ) → Sound P p → value_at P n p ≡ ZeroModulus → Meets P n p (zero_at P n p)
 zero_met P n p s v = met_to P n (suc p) p (omega arith) s v
 
 -- and there is no other: where there is one, the tree has no value, and the one that is told is this one
-exact_here : (P : Nodes) (n p : ℕ) → Divides P n p → value_at P n p ≡ ZeroModulus → Case P n p → (value_at P n p ≡ ZeroModulus) × (zero_at P n p ≡ p)
+exact_here : (P : Pool) (n p : ℕ) → Divides P n p → value_at P n p ≡ ZeroModulus → Case P n p → (value_at P n p ≡ ZeroModulus) × (zero_at P n p ≡ p)
 exact_here P n p d v (whole st vs w) = (v, sym (zero_here P n p st))
 exact_here P n p d v (broken q st l m f only z no) = absurd (no d)
 
-exact_on : (P : Nodes) (n p r q : ℕ) → Sound P p → member r (reached P n p) ≡ true → (value_at P n r ≡ ZeroModulus) × (zero_at P n r ≡ q) → Case P n p
+exact_on : (P : Pool) (n p r q : ℕ) → Sound P p → member r (reached P n p) ≡ true → (value_at P n r ≡ ZeroModulus) × (zero_at P n r ≡ q) → Case P n p
     → (value_at P n p ≡ ZeroModulus) × (zero_at P n p ≡ q)
 exact_on P n p r q s m k (whole st vs w) = absurd (vs r m k.0)
 exact_on P n p r q s m k (broken o st l i f only z no) =
     (z, zero_on P n p s (sym st) (λ e. omega arith) ∙ ap (zero_at P n) (sym (only r m k.0)) ∙ k.1)
 
-exactly : (P : Nodes) (n : ℕ) {p q : ℕ} → Sound P p → Reaches P n p q → Divides P n q → (value_at P n p ≡ ZeroModulus) × (zero_at P n p ≡ q)
+exactly : (P : Pool) (n : ℕ) {p q : ℕ} → Sound P p → Reaches P n p q → Divides P n q → (value_at P n p ≡ ZeroModulus) × (zero_at P n p ≡ q)
 exactly P n {p} s here d = exact_here P n p d (divides_fails P n p s d) (case_of P n p s)
 exactly P n {p} {q} s (on {r = r} m w) d =
     exact_on P n p r q s m (exactly P n (down s refl (reached_low P n p s m) refl).1 w d) (case_of P n p s)
 
-pub zero_exactly : (P : Nodes) (n p q : ℕ) → Sound P p → Meets P n p q → (value_at P n p ≡ ZeroModulus) × (zero_at P n p ≡ q)
+pub zero_exactly : (P : Pool) (n p q : ℕ) → Sound P p → Meets P n p q → (value_at P n p ≡ ZeroModulus) × (zero_at P n p ≡ q)
 zero_exactly P n p q s w = exactly P n s w.gets w.divides

@@ -12,7 +12,7 @@ use Rattle.rules.specs.declared.Value.TheVariants.{Is, ZeroModulus}
 use Rattle.rules.specs.declared.Resolved.{Resolved}
 use Rattle.rules.specs.declared.Resolved.TheVariants as resolved
 use Rattle.rules.specs.Operator.{op_of}
-use Rattle.rules.specs.Nodes.{Nodes, code, field, is_tree, not_node, pair_op, choice_node, ternary_node}
+use Rattle.rules.specs.Pool.{Pool, code, field, is_tree, nay_node, pair_op, choice_node, ternary_node}
 use Rattle.rules.specs.Promise.{Sound}
 use Rattle.rules.specs.Answer.{resolved_of}
 use Rattle.rules.proofs.Trees.{first_in, second_in, down, sound}
@@ -20,23 +20,23 @@ use Rattle.rules.proofs.Answers.{resolved_none}
 use Rattle.rules_operators.specs.Operator.{settled_by}
 use Rattle.rules_zero.specs.Zero.{value_at, second, reached, without, first_of, step_of, steps, zero_at, traced, traced_of}
 
-module _ (P : Nodes) (n p : ℕ) where
-  pub step_leaf : code P p < not_node → p ≡ step_of P n p
+module _ (P : Pool) (n p : ℕ) where
+  pub step_leaf : code P p < nay_node → p ≡ step_of P n p
   unfolding step_of reached
-  step_leaf h = rw (step_of, reached, lt-ltb (code P p) not_node h)
+  step_leaf h = rw (step_of, reached, lt-ltb (code P p) nay_node h)
 
   -- what the code found of an operand that is the only one left
   abbrev Left : ℕ → ℕ → Type 0
   Left q r = r ≡ without (value_at P n q) q p
 
-  pub step_one : {r : ℕ} → not_node ≤ code P p → code P p < pair_op → Left (p - 1) r → r ≡ step_of P n p
+  pub step_one : {r : ℕ} → nay_node ≤ code P p → code P p < pair_op → Left (p - 1) r → r ≡ step_of P n p
   unfolding step_of reached
-  step_one h l e = e ∙ rw (step_of, reached, le-ltb (code P p) not_node h, lt-ltb (code P p) pair_op l)
+  step_one h l e = e ∙ rw (step_of, reached, le-ltb (code P p) nay_node h, lt-ltb (code P p) pair_op l)
 
   step_two : pair_op ≤ code P p
       → step_of P n p ≡ without (value_at P n (field P p 0)) (field P p 0) (first_of P n p (second P p (value_at P n (field P p 0))))
   unfolding step_of reached
-  step_two h = rw (step_of, reached, le-ltb (code P p) not_node (omega arith), le-ltb (code P p) pair_op h)
+  step_two h = rw (step_of, reached, le-ltb (code P p) nay_node (omega arith), le-ltb (code P p) pair_op h)
 
   -- the first operand is q, and u its value
   module _ {q : ℕ} {u : Value} (h : pair_op ≤ code P p) (e : q ≡ field P p 0) (g : u ≡ value_at P n q) where
@@ -64,7 +64,7 @@ module _ (P : Nodes) (n p : ℕ) where
           rw d at k
           ∙ sym (at_first f ∙ rw (second, le-ltb (code P p) choice_node (omega arith), ne_eqb x 0 z, le-ltb (code P p) ternary_node m))
 
-pub inside : {P : Nodes} {p : ℕ} → Sound P p → p < 512
+pub inside : {P : Pool} {p : ℕ} → Sound P p → p < 512
 inside s = omega (arith, s.inside, s.few)
 
 -- the operand's value is u, as the code has it
@@ -76,7 +76,7 @@ without_low : (v : Value) {q r p : ℕ} → q ≤ p → r ≤ p → without v q 
 without_low (Is x) h k = k
 without_low ZeroModulus h k = h
 
-module _ {P : Nodes} {p : ℕ} (n : ℕ) (s : Sound P p) where
+module _ {P : Pool} {p : ℕ} (n : ℕ) (s : Sound P p) where
   second_low : (v : Value) → pair_op ≤ code P p → first_of P n p (second P p v) ≤ p
   second_low ZeroModulus h = omega arith
   second_low (Is x) h = go (ltb (code P p) choice_node) refl
@@ -98,9 +98,9 @@ module _ {P : Nodes} {p : ℕ} (n : ℕ) (s : Sound P p) where
       go false e = rw (second, e) (chosen (eqb x 0))
 
   step_low : step_of P n p ≤ p
-  step_low = leafs (ltb (code P p) not_node) refl
+  step_low = leafs (ltb (code P p) nay_node) refl
     where
-      ones : (b : Bool) → not_node ≤ code P p → ltb (code P p) pair_op ≡ b → step_of P n p ≤ p
+      ones : (b : Bool) → nay_node ≤ code P p → ltb (code P p) pair_op ≡ b → step_of P n p ≤ p
       ones true h e =
           let z : without (value_at P n (p - 1)) (p - 1) p ≡ step_of P n p = step_one P n p h (ltb-true (code P p) pair_op e) refl in
           rw (← z) (without_low (value_at P n (p - 1)) (omega arith) (omega arith))
@@ -108,21 +108,21 @@ module _ {P : Nodes} {p : ℕ} (n : ℕ) (s : Sound P p) where
           let l = ltb-false (code P p) pair_op e in
           rw (step_two P n p l) (without_low (value_at P n (field P p 0)) (omega (arith, first_in s l)) (second_low (value_at P n (field P p 0)) l))
 
-      leafs : (b : Bool) → ltb (code P p) not_node ≡ b → step_of P n p ≤ p
-      leafs true e = omega (arith, step_leaf P n p (ltb-true (code P p) not_node e))
-      leafs false e = ones (ltb (code P p) pair_op) (ltb-false (code P p) not_node e) refl
+      leafs : (b : Bool) → ltb (code P p) nay_node ≡ b → step_of P n p ≤ p
+      leafs true e = omega (arith, step_leaf P n p (ltb-true (code P p) nay_node e))
+      leafs false e = ones (ltb (code P p) pair_op) (ltb-false (code P p) nay_node e) refl
 
   -- and where it goes, it goes down
   pub step_down : {q : ℕ} → q ≡ step_of P n p → (q ≡ p → ⊥) → (q < p) × Sound P q
   step_down {q} e d = down s refl (let l : q < p = omega (arith, step_low) in l) refl
 
-stays : (P : Nodes) (n p f : ℕ) → step_of P n p ≡ p → steps f P n p ≡ p
+stays : (P : Pool) (n p f : ℕ) → step_of P n p ≡ p → steps f P n p ≡ p
 unfolding steps
 stays P n p zero e = refl
 stays P n p (suc f) e = ap (steps f P n) e ∙ stays P n p f e
 
 -- any number of steps from p on does
-enough : (P : Nodes) (n f g p : ℕ) → Sound P p → p ≤ f → p ≤ g → steps f P n p ≡ steps g P n p
+enough : (P : Pool) (n f g p : ℕ) → Sound P p → p ≤ f → p ≤ g → steps f P n p ≡ steps g P n p
 unfolding steps
 enough P n zero g p s h k = let e : step_of P n p ≡ p = omega (arith, step_low n s) in stays P n p zero e ∙ sym (stays P n p g e)
 enough P n (suc f) zero p s h k = let e : step_of P n p ≡ p = omega (arith, step_low n s) in stays P n p (suc f) e ∙ sym (stays P n p zero e)
@@ -135,7 +135,7 @@ enough P n (suc f) (suc g) p s h k =
     by_step true e r = let d = eqb-true (step_of P n p) p e in stays P n p (suc f) d ∙ sym (stays P n p (suc g) d)
     by_step false e r = r (step_down n s refl (eqb-false (step_of P n p) p e))
 
-module _ (P : Nodes) (n p : ℕ) where
+module _ (P : Pool) (n p : ℕ) where
   pub zero_here : step_of P n p ≡ p → p ≡ zero_at P n p
   unfolding zero_at
   zero_here e = sym (stays P n p p e)
@@ -149,7 +149,7 @@ module _ (P : Nodes) (n p : ℕ) where
       ∙ enough P n p q q w.1 (omega (arith, w.0)) (omega arith)
 
 -- the value of a rule with the node, as the code has them
-module _ (P : Nodes) (count root n : ℕ) where
+module _ (P : Pool) (count root n : ℕ) where
   pub traces : {v u : Resolved} → v ≡ resolved_of P count root n → v ≡ u → traced u (zero_at P n root) ≡ traced_of P count root n
   unfolding traced_of
   traces e d = ap (λ (u : Resolved). traced u (zero_at P n root)) (sym d ∙ e)

@@ -7,18 +7,18 @@ use Rattle.rules.specs.declared.Resolved.{Resolved}
 use Rattle.rules.specs.declared.Resolved.TheVariants as resolved
 use Rattle.rules.specs.Value.{eval_tree}
 use Rattle.rules.specs.Operator.{op_of}
-use Rattle.rules.specs.Nodes.{Nodes, code, field, tree_of, not_node, pair_op, choice_node, ternary_node}
+use Rattle.rules.specs.Pool.{Pool, code, field, tree_of, nay_node, pair_op, choice_node, ternary_node}
 use Rattle.rules.specs.Answer.{resolved_of}
 use Rattle.rules_operators.specs.Operator.{settled_by}
 use Rattle.rules_zero.specs.declared.Traced.{Traced}
 use Rattle.rules_zero.specs.declared.Traced.TheVariants.{Form, ZeroDivisor, NoTree}
 
-abbrev pub value_at : Nodes → ℕ → ℕ → Value
+abbrev pub value_at : Pool → ℕ → ℕ → Value
 value_at P n q = eval_tree (tree_of P q) n
 
 -- the second operand that evaluation gets to at the node at p, by the value of the first: of x op b that is b, unless x settles op; of
 -- x ? v : b it is b for 0; of x ? y : b it is b for 0, else y
-abbrev pub second : Nodes → ℕ → Value → List ℕ
+abbrev pub second : Pool → ℕ → Value → List ℕ
 second P p ZeroModulus = []
 second P p (Is x) =
     elim (ltb (code P p) choice_node) [
@@ -27,9 +27,9 @@ second P p (Is x) =
     ]
 
 -- the operands of the node at p that evaluation at n gets to, in its order
-unfoldable pub reached : Nodes → ℕ → ℕ → List ℕ
+unfoldable pub reached : Pool → ℕ → ℕ → List ℕ
 reached P n p =
-    elim (ltb (code P p) not_node) [
+    elim (ltb (code P p) nay_node) [
       | true ↦ []
       | false ↦ elim (ltb (code P p) pair_op) [ true ↦ (p - 1) ∷ [] | false ↦ field P p 0 ∷ second P p (value_at P n (field P p 0)) ]
     ]
@@ -39,22 +39,22 @@ abbrev pub without : Value → ℕ → ℕ → ℕ
 without (Is x) q p = p
 without ZeroModulus q p = q
 
-abbrev pub first_of : Nodes → ℕ → ℕ → List ℕ → ℕ
+abbrev pub first_of : Pool → ℕ → ℕ → List ℕ → ℕ
 first_of P n p [] = p
 first_of P n p (q ∷ qs) = without (value_at P n q) q (first_of P n p qs)
 
 -- from a node whose tree has no value: the operand that has none, or the node itself, which then divides by zero
-unfoldable pub step_of : Nodes → ℕ → ℕ → ℕ
+unfoldable pub step_of : Pool → ℕ → ℕ → ℕ
 unfolding reached
 step_of P n p = first_of P n p (reached P n p)
 
-unfoldable pub steps : ℕ → Nodes → ℕ → ℕ → ℕ
+unfoldable pub steps : ℕ → Pool → ℕ → ℕ → ℕ
 unfolding step_of
 steps zero P n p = p
 steps (suc f) P n p = steps f P n (step_of P n p)
 
 -- the node at which evaluation of the tree at p meets a zero divisor, where it does: operands lie below their parents, so p steps are enough
-unfoldable pub zero_at : Nodes → ℕ → ℕ → ℕ
+unfoldable pub zero_at : Pool → ℕ → ℕ → ℕ
 unfolding steps
 zero_at P n p = steps p P n p
 
@@ -64,6 +64,6 @@ traced (resolved.Form x) q = Form x
 traced resolved.ZeroModulus q = ZeroDivisor q
 traced resolved.NoTree q = NoTree
 
-unfoldable pub traced_of : Nodes → ℕ → ℕ → ℕ → Traced
+unfoldable pub traced_of : Pool → ℕ → ℕ → ℕ → Traced
 unfolding zero_at
 traced_of P count root n = traced (resolved_of P count root n) (zero_at P n root)

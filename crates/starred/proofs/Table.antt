@@ -1,4 +1,4 @@
--- The cases of SPEC 17.1 (specs/Table.antt) under one statement, which is computed. It speaks of the definitions that the contracts cite: `load` of
+-- The starred cases (specs/Table.antt) under one statement, which is computed. It speaks of the definitions that the contracts cite: `load` of
 -- container, `singular` and `plural` of lookup, `parsed` of reading_rule, `eval_tree`, `rate_tree` and `fits_range` of rules. Assumes nothing.
 use Prim.Native.Nat.{ℕ, ◌-◌}
 use mathlib.Core.Path.{◌≡◌, refl}
@@ -16,7 +16,7 @@ use Rattle.rules.specs.Tree.{Tree}
 use Rattle.rules.specs.Value.{eval_tree, binary, negated, chosen, truth_v}
 use Rattle.rules.specs.Range.{rate_tree, bin_range, op_range, cond_range, not_range, fits_range}
 use Rattle.rules.specs.Operator.{op_at, op_of, op_code}
-use Rattle.rules.specs.Nodes.{tree_at, tree_of, operands_to, operands, all_below, operands_below, member, distinct, shaped, is_tree}
+use Rattle.rules.specs.Pool.{tree_at, tree_of, operands_to, operands, all_below, used, member, distinct, shaped, is_tree}
 use Rattle.rules.specs.Store.{zeros, blank}
 use Rattle.rules.specs.Pack.{number_of as integerIn, is_count, is_rem, left_of, pack, nodes, keep, packed_size, packed}
 use Rattle.rules.specs.Answer.{resolved_of}
@@ -39,7 +39,7 @@ use Rattle.container_head.specs.Head.{order_of, head_of}
 use Rattle.container_rule.specs.Rule.{rule_at, file_forms}
 use Rattle.container.specs.Catalog.{header, entry_step, entries_from, Answer, accepted, refused, opened, load}
 use Rattle.container.specs.declared.Options.{Options}
-use Rattle.lookup_scan.specs.Last.{last_in, last_with}
+use Rattle.lookup_scan.specs.Keys.{last_in, last_with}
 use Rattle.lookup.specs.Lookup as lookup
 use Rattle.lookup.specs.Text.{singular_text, plural_text}
 use Rattle.lookup.specs.declared.Reason.{Reason}
@@ -95,11 +95,11 @@ computed (valuing r s n) = read (parsed Forced r s) (λ t. valued (eval_tree t n
 computed (ranging s) = read (parsed Forced Standard s) (λ t. ranged (rate_tree t))
 computed (fitting s k) = read (parsed Forced Standard s) (λ t. answered (fits_range (rate_tree t) k))
 
--- is what SPEC 17.1 says
+-- is what document 01 says
 pub starred_holds : map (λ r. computed r.0) starred ≡ map (λ r. r.1) starred
 unfolding load opened file_forms entries_from entry_step header rule_at read_at original_of head_of order_of word string context_end id_start id_end context id utf8 rest front trim trim_start trim_end edge_after lead encode
     same begins first cut every named last_of charset plural metadata utf8_label entry piece_at segment last_in last_with lookup.plural plural_text
     parsed tested made all tokens lex standard shipped parse_in parens level choose read_not index_of index_from end_from integer digits_from
     eval_tree binary negated chosen truth_v rate_tree bin_range op_range cond_range not_range fits_range
-    resolved_of op_at op_of op_code tree_at tree_of operands_to operands all_below operands_below member distinct shaped is_tree zeros blank integerIn is_count is_rem left_of pack nodes keep packed_size packed
+    resolved_of op_at op_of op_code tree_at tree_of operands_to operands all_below used member distinct shaped is_tree zeros blank integerIn is_count is_rem left_of pack nodes keep packed_size packed
 starred_holds = refl

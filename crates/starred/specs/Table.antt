@@ -1,5 +1,5 @@
--- The cases of SPEC 17.1 as data, each with what it says of it: those that the order stars (docs/ORDER.md), and the two rows of G, on which a
--- lookup that always returns form 0 fails.
+-- The starred cases of document 01, "Files and rules to try", as data: each with what the document says of it. The two rows of G, on which a
+-- lookup that always returns form 0 fails, are added.
 use Rattle.std.specs.Prelude.{ℕ, List, [], ◌∷◌, ◌++◌, take, set}
 use Rattle.text.specs.Bytes.{bytes}
 use Rattle.refusal.specs.Numbers.{number_of}

@@ -1,1 +1,1 @@
-// The cases of SPEC 17.1 as one table over the definitions that the contracts cite: theorems only.
+// The starred cases of document 01, "Files and rules to try", as one table over the definitions that the contracts cite: theorems only.

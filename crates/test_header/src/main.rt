@@ -5,7 +5,7 @@ use text::Stretch;
 
 fn part(h: &[u8], p: Stretch) {
     match p {
-        Stretch::At { start, len } => {
+        Stretch::At(start, len) => {
             io::write_all(1, b"[");
             if start <= h.len() {
                 if len <= h.len() - start {
@@ -27,11 +27,7 @@ fn shows(h: &[u8]) {
         Metadata::Malformed => {
             io::write_all(1, b"4");
         }
-        Metadata::Fields {
-            label,
-            rule,
-            forms: _,
-        } => {
+        Metadata::Fields(label, rule, _) => {
             part(h, label);
             io::write_all(1, b" ");
             part(h, rule);

@@ -1,4 +1,4 @@
-// Replays answers that were written down: of the Rust crate, of SPEC where the crate has none, and of the Standard reading. The
+// Replays answers that were written down: of the Rust crate, of document 01 where the crate has none, and of the Standard reading. The
 // list on standard input is made by `oracle/sample`, and oracle/src/sample.rs says how it is laid out. Writes how many cases agree, and
 // the place in the list of each that does not, counted from 0.
 ghost use Rattle.std.specs.Prelude.{◌<◌};
@@ -78,7 +78,7 @@ fn from<'a>(s: &'a [u8], at: usize) -> &'a [u8] {
 // Whose text answers: the file's, the id, the plural id.
 fn whose(text: Text) -> u8 {
     match text {
-        Text::Segment { start, len } => 0,
+        Text::Segment(start, len) => 0,
         Text::Id => 1,
         Text::PluralId => 2,
     }
@@ -233,7 +233,7 @@ fn count_at(i: usize) -> u64 {
     }
 }
 
-// A form as it is told: 64 for any above 63, 255 for a remainder or quotient by zero.
+// A form as it is told: 64 for any above 63, 255 for a remainder by zero.
 fn told_form(r: Resolved) -> u64 {
     match r {
         Resolved::Form(x) => {
@@ -250,7 +250,7 @@ fn told_form(r: Resolved) -> u64 {
 fn forms_agree<'a>(
     told: &'a [u8],
     codes: &'a [u8; 512],
-    fields: &'a [u16; 1024],
+    places: &'a [u16; 1024],
     values: &'a [u64; 512],
     nodes: usize,
 ) -> bool {
@@ -259,7 +259,7 @@ fn forms_agree<'a>(
     }
     let mut i = 0;
     while i < 16 {
-        let form = rules_value::resolve(codes, fields, values, nodes, nodes - 1, count_at(i));
+        let form = rules_value::resolve(codes, places, values, nodes, nodes - 1, count_at(i));
         if told_form(form) != byte(told, i) as u64 {
             return false;
         }
@@ -272,14 +272,14 @@ fn rule_agrees(told: &[u8]) -> bool {
     let len = two(from(told, 4));
     let texts = from(told, 6);
     let mut codes = [0u8; 512];
-    let mut fields = [0u16; 1024];
+    let mut places = [0u16; 1024];
     let mut values = [0u64; 512];
     let parsed = reading_rule::parse(
         first(texts, len),
         Where::Forced,
         reading_of(byte(told, 2)),
         &mut codes,
-        &mut fields,
+        &mut places,
         &mut values,
     );
     let outcome = parsed.outcome;
@@ -291,7 +291,7 @@ fn rule_agrees(told: &[u8]) -> bool {
         return true;
     }
     let nodes = parsed.nodes;
-    forms_agree(from(texts, len), &codes, &fields, &values, nodes)
+    forms_agree(from(texts, len), &codes, &places, &values, nodes)
 }
 
 fn case_agrees(told: &[u8]) -> bool {
@@ -411,6 +411,6 @@ fn main() {
         standard_agree: 0,
     });
     show(b"the crate", t.by_crate_agree, t.by_crate);
-    show(b"SPEC", t.by_document_agree, t.by_document);
+    show(b"document 01", t.by_document_agree, t.by_document);
     show(b"Standard", t.standard_agree, t.standard);
 }

@@ -56,10 +56,10 @@ pub record Bounded : Type 0 where
   pub text : List ℕ
   pub other : List ℕ
   pub lo : ℕ
-  pub equal_at_least_lem : Bool
+  pub same_from : Bool
 
 abbrev bounded : List ℕ → List ℕ → ℕ → Bool → Bounded
-bounded s t n b = record { text = s; other = t; lo = n; equal_at_least_lem = b }
+bounded s t n b = record { text = s; other = t; lo = n; same_from = b }
 
 abbrev pub bounds : List Bounded
 bounds =
@@ -74,6 +74,6 @@ bounds =
     ∷ bounded [] [] 255 true
     ∷ []
 
-pub bounds_hold : map (λ r. same r.other r.text && all (within (r.lo, 255)) r.other) bounds ≡ map (λ r. r.equal_at_least) bounds
+pub bounds_hold : map (λ r. same r.other r.text && all (within (r.lo, 255)) r.other) bounds ≡ map (λ r. r.same_from) bounds
 unfolding same all
 bounds_hold = refl

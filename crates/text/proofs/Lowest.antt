@@ -80,8 +80,8 @@ module _ (p s : List ℕ) (lo : ℕ) where
       (λ q. t ∙ sym q))
 
   -- every byte is one from 0 on; and texts of two lengths are not the same
-  pub equal_at_least_zero : lo ≡ 0 → ((i : ℕ) → get_or p i 0 ≤ 255) → {r : Bool} → r ≡ same p s → r ≡ (same p s && all (within (lo, 255)) p)
-  equal_at_least_zero h b e = rw (all_each (within (lo, 255)) p (λ i l. inside lo 255 (get_or p i 0) (omega arith) (b i)), and-true (same p s)) e
+  pub same_from_zero : lo ≡ 0 → ((i : ℕ) → get_or p i 0 ≤ 255) → {r : Bool} → r ≡ same p s → r ≡ (same p s && all (within (lo, 255)) p)
+  same_from_zero h b e = rw (all_each (within (lo, 255)) p (λ i l. inside lo 255 (get_or p i 0) (omega arith) (b i)), and-true (same p s)) e
 
-  pub equal_at_least_none : (length s ≡ length p → ⊥) → false ≡ (same p s && all (within (lo, 255)) p)
-  equal_at_least_none h = rw (other_length p s h)
+  pub same_from_none : (length s ≡ length p → ⊥) → false ≡ (same p s && all (within (lo, 255)) p)
+  same_from_none h = rw (other_length p s h)

@@ -14,8 +14,8 @@ use Rattle.text.proofs.starts_with.Reads as starts_with
 use Rattle.text.proofs.starts_with.Kinds as starts-with-kinds
 use Rattle.text.proofs.equal.Reads as equal
 use Rattle.text.proofs.equal.Kinds as equal-kinds
-use Rattle.text.proofs.equal_at_least.Reads as equal_at_least_lem
-use Rattle.text.proofs.equal_at_least.Kinds as equal-at-least-kinds
+use Rattle.text.proofs.same_from.Reads as same_from
+use Rattle.text.proofs.same_from.Kinds as same-from-kinds
 use Rattle.text.proofs.equal_small.Reads as equal_small_lem
 use Rattle.text.proofs.equal_small.Kinds as equal-small-kinds
 use Rattle.text.proofs.find.Reads as find
@@ -39,8 +39,8 @@ starts_with_one κs a u v x y p q = p ∙ sym q
 pub equal_one : One 2 equal-kinds.ps equal-kinds.r equal.Post
 equal_one κs a u v x y p q = p ∙ sym q
 
-pub equal_at_least_one : One 2 equal-at-least-kinds.ps equal-at-least-kinds.r equal_at_least_lem.Post
-equal_at_least_one κs a u v x y p q = p ∙ sym q
+pub same_from_one : One 2 same-from-kinds.ps same-from-kinds.r same_from.Post
+same_from_one κs a u v x y p q = p ∙ sym q
 
 pub equal_small_one : One 2 equal-small-kinds.ps equal-small-kinds.r equal_small_lem.Post
 equal_small_one κs a u v x y p q = p ∙ sym q

@@ -1,5 +1,5 @@
--- A text cut at each byte x: always at least one piece. SPEC 5.1, 5.3 and 3.5: a header's lines at byte 10, Plural-Forms at
--- semicolons, a translation's segments at NUL.
+-- A text cut at each byte x: always at least one piece. Document 01: a header's lines at byte 10, Plural-Forms at semicolons, a
+-- translation's segments at NUL.
 use Rattle.std.specs.Prelude.{ℕ, Bool, true, false, ◌&&◌, List, [], ◌∷◌, eqb}
 
 -- b before the first piece

@@ -7,7 +7,7 @@ ghost use Rattle.text.specs.Private.{in_run, Flags, Blocks, differ_of, differenc
 // A part of a text, its start and its length, or none.
 #[derive(Drop)]
 pub enum Stretch {
-    At { start: usize, len: usize },
+    At(usize, usize),
     Absent,
 }
 
@@ -341,7 +341,7 @@ fn least_of(s: &[u8], other: &[u8]) -> u8
 }
 
 // Whether two texts are the same and have no byte below a bound, in one pass: the least byte that they have in common tells both.
-pub fn equal_at_least(s: &[u8], other: &[u8], lo: u8) -> bool
+pub fn same_from(s: &[u8], other: &[u8], lo: u8) -> bool
     ensures { result ≡ (same other.now s.now && all (within (lo, 255)) other.now) }
 {
     if lo == 0 {

@@ -158,7 +158,7 @@ impl<B: Bytes, S: Search> Catalog<B, S> {
     /// How many entries the file has, the header counted in.
     #[must_use]
     pub fn len(&self) -> usize {
-        self.record.words.count as usize
+        self.record.head.count
     }
 
     /// How many forms the header says that a translation has: the last well-formed `nplurals` or `n_plurals` of its Plural-Forms. It is kept
@@ -229,7 +229,14 @@ impl<B: Bytes, S: Search> Catalog<B, S> {
     where
         B: Live<'c, 't>,
     {
-        self.text(self.find(None, msg_id.as_bytes()), msg_id, msg_id)
+        let answer = ffi::gettext(
+            self.file.bytes(),
+            &self.record,
+            self.search.slots(),
+            None,
+            msg_id.as_bytes(),
+        );
+        self.text(answer, msg_id, msg_id)
     }
 
     /// [`Catalog::ngettext`], with how it went and where the text comes from.
@@ -244,7 +251,14 @@ impl<B: Bytes, S: Search> Catalog<B, S> {
     where
         B: Live<'c, 't>,
     {
-        let answer = self.nfind(None, msg_id.as_bytes(), n);
+        let answer = ffi::ngettext(
+            self.file.bytes(),
+            &self.record,
+            self.search.slots(),
+            None,
+            msg_id.as_bytes(),
+            n,
+        );
         self.text(answer, msg_id, msg_id_plural)
     }
 
@@ -255,7 +269,14 @@ impl<B: Bytes, S: Search> Catalog<B, S> {
     where
         B: Live<'c, 't>,
     {
-        let answer = self.find(Some(msg_context.as_bytes()), msg_id.as_bytes());
+        let (context, id) = (msg_context.as_bytes(), msg_id.as_bytes());
+        let answer = ffi::gettext(
+            self.file.bytes(),
+            &self.record,
+            self.search.slots(),
+            Some(context),
+            id,
+        );
         self.text(answer, msg_id, msg_id)
     }
 
@@ -272,7 +293,15 @@ impl<B: Bytes, S: Search> Catalog<B, S> {
     where
         B: Live<'c, 't>,
     {
-        let answer = self.nfind(Some(msg_context.as_bytes()), msg_id.as_bytes(), n);
+        let (context, id) = (msg_context.as_bytes(), msg_id.as_bytes());
+        let answer = ffi::ngettext(
+            self.file.bytes(),
+            &self.record,
+            self.search.slots(),
+            Some(context),
+            id,
+            n,
+        );
         self.text(answer, msg_id, msg_id_plural)
     }
 
@@ -283,7 +312,14 @@ impl<B: Bytes, S: Search> Catalog<B, S> {
     where
         B: Live<'c, 't>,
     {
-        self.bytes(self.find(None, msg_id), msg_id, msg_id)
+        let answer = ffi::gettext(
+            self.file.bytes(),
+            &self.record,
+            self.search.slots(),
+            None,
+            msg_id,
+        );
+        self.bytes(answer, msg_id, msg_id)
     }
 
     /// [`Catalog::ngettext`] over bytes.
@@ -298,7 +334,15 @@ impl<B: Bytes, S: Search> Catalog<B, S> {
     where
         B: Live<'c, 't>,
     {
-        self.bytes(self.nfind(None, msg_id, n), msg_id, msg_id_plural)
+        let answer = ffi::ngettext(
+            self.file.bytes(),
+            &self.record,
+            self.search.slots(),
+            None,
+            msg_id,
+            n,
+        );
+        self.bytes(answer, msg_id, msg_id_plural)
     }
 
     /// [`Catalog::pgettext`] over bytes.
@@ -308,7 +352,14 @@ impl<B: Bytes, S: Search> Catalog<B, S> {
     where
         B: Live<'c, 't>,
     {
-        self.bytes(self.find(Some(msg_context), msg_id), msg_id, msg_id)
+        let answer = ffi::gettext(
+            self.file.bytes(),
+            &self.record,
+            self.search.slots(),
+            Some(msg_context),
+            msg_id,
+        );
+        self.bytes(answer, msg_id, msg_id)
     }
 
     /// [`Catalog::npgettext`] over bytes.
@@ -324,33 +375,15 @@ impl<B: Bytes, S: Search> Catalog<B, S> {
     where
         B: Live<'c, 't>,
     {
-        let answer = self.nfind(Some(msg_context), msg_id, n);
-        self.bytes(answer, msg_id, msg_id_plural)
-    }
-
-    // Every lookup is one of these two, in a context where one is given. They are made part of what calls them, in the caller's crate too, as those of
-    // `ffi` are.
-    #[inline]
-    fn find(&self, context: Option<&[u8]>, id: &[u8]) -> ffi::Answer {
-        ffi::gettext(
+        let answer = ffi::ngettext(
             self.file.bytes(),
             &self.record,
             self.search.slots(),
-            context,
-            id,
-        )
-    }
-
-    #[inline]
-    fn nfind(&self, context: Option<&[u8]>, id: &[u8], n: u64) -> ffi::Answer {
-        ffi::ngettext(
-            self.file.bytes(),
-            &self.record,
-            self.search.slots(),
-            context,
-            id,
+            Some(msg_context),
+            msg_id,
             n,
-        )
+        );
+        self.bytes(answer, msg_id, msg_id_plural)
     }
 
     /// Why [`Catalog::ngettext`] gives its text, and the text. It passes over the entries, also where the catalog has an index: the answer is
@@ -402,7 +435,7 @@ impl<B: Bytes, S: Search> Catalog<B, S> {
     }
 
     /// The lowest and the highest form that the plural rule can name, or `None` where the rule is not rated: then it may take a
-    /// remainder or quotient by zero.
+    /// remainder by zero.
     ///
     /// It is proved that a rated rule names for every count a form from the lowest to the highest.
     #[must_use]
@@ -417,7 +450,7 @@ impl<B: Bytes, S: Search> Catalog<B, S> {
         ffi::fits(&self.record, k).fits != 0
     }
 
-    /// The form that the plural rule names for `n`, or `None` where it takes a remainder or quotient by zero.
+    /// The form that the plural rule names for `n`, or `None` where it takes a remainder by zero.
     #[must_use]
     pub fn resolve(&self, n: u64) -> Option<u64> {
         let form = ffi::resolve(&self.record, n);
@@ -526,7 +559,7 @@ impl Forms {
         self.0[16]
     }
 
-    /// How many meet a remainder or quotient by zero.
+    /// How many meet a zero divisor.
     #[must_use]
     pub fn zero(&self) -> u64 {
         self.0[17]

@@ -259,7 +259,7 @@ impl From<Error> for Refusal {
 pub enum Status {
     /// The text is the catalog's, or the catalog has none and it is the caller's.
     Answered,
-    /// The plural rule takes a remainder or quotient by zero at this count; the text is the caller's.
+    /// The plural rule takes a remainder by zero at this count; the text is the caller's.
     ZeroModulus,
     /// The record does not belong to the file. It cannot come from a [`Catalog`](crate::Catalog), which keeps both.
     BadRecord,

@@ -2,49 +2,41 @@
 //! wrapped once, so that the rest of the crate calls safe functions.
 //!
 //! What makes every call here safe: the library asks nothing of the values that it is given (its functions have no `requires`), reads
-//! what is lent to be read, and writes what it is lent to write and nothing else: a record's arrays in a load and for the empty catalog, slots in building an
-//! index, the buffer of a rule's text, the figures of a span. It keeps no pointer and has no state. A slice goes as pointer and length, an array as a pointer; a Rust slice's pointer is never null.
+//! what is lent to be read, writes a record's arrays alone, in a load, and an index's slots alone, in building it, keeps no pointer and has no
+//! state. A slice goes as pointer and length, an array as a pointer; a Rust slice's pointer is never null.
 
 use std::mem::size_of;
 
 #[cfg(not(any(target_arch = "x86_64", target_arch = "aarch64")))]
 compile_error!("the static library is built for x86-64, or by host/library for aarch64");
 
-/// The head of a record: the file's length, how many nodes the rule has, and its root. The library takes it as an array of three.
+/// The head of a record: seven words, which the library takes as an array of seven.
 #[repr(C)]
 #[derive(Clone, Copy, Debug, PartialEq)]
 pub struct Head {
     pub length: usize,
+    pub count: usize,
+    pub originals: usize,
+    pub translations: usize,
+    pub big: usize,
     pub nodes: usize,
     pub root: usize,
 }
 
-/// Its words, of 32 bits as in the file: how many entries there are, where the two tables lie, and the byte order. The library takes them as
-/// an array of four.
-#[repr(C)]
-#[derive(Clone, Copy, Debug, PartialEq)]
-pub struct Words {
-    pub count: u32,
-    pub originals: u32,
-    pub translations: u32,
-    pub big: u32,
-}
-
-/// What lookups need beside the file: head and words, and the nodes of the rule; and the header's count of forms, where `counted` is not 0.
+/// What lookups need beside the file: the head, and the nodes of the rule; and the header's count of forms, where `counted` is not 0.
 #[repr(C)]
 #[derive(Clone, Copy)]
 pub struct Record {
     pub head: Head,
-    pub words: Words,
     pub values: [u64; 512],
-    pub fields: [u16; 1024],
+    pub places: [u16; 1024],
     pub codes: [u8; 512],
     pub forms: u64,
     pub counted: u32,
 }
 
 /// A load's number; where a refused one failed, the side (0 none) and, where `entered` is not 0, the entry; where `counted` is not 0, the
-/// header's count of forms; and its record's head and words.
+/// header's count of forms; and its record's head.
 #[repr(C)]
 #[derive(Clone, Copy)]
 pub struct Loaded {
@@ -55,7 +47,6 @@ pub struct Loaded {
     pub entry: usize,
     pub forms: u64,
     pub head: Head,
-    pub words: Words,
 }
 
 /// The text that answers: `which` 0 is the segment of the file at `start`, 1 the id, 2 the plural id.
@@ -119,7 +110,7 @@ pub struct Explained {
 }
 
 impl Explained {
-    /// The lookup's answer, a function of the reason: proved, `why-ngettext`, crates/demands/proofs/Why.antt.
+    /// The lookup's answer, a function of the reason: proved, `why-ngettext`, crates/gettext_c/proofs/Why.antt.
     pub fn answer(&self) -> Answer {
         let answered = self.kind == 6;
         Answer {
@@ -133,27 +124,19 @@ impl Explained {
     }
 }
 
-const _: () = assert!(size_of::<Head>() == 24);
-const _: () = assert!(size_of::<Words>() == 16);
-const _: () = assert!(size_of::<Record>() == 6712);
-const _: () = assert!(size_of::<Loaded>() == 72);
+const _: () = assert!(size_of::<Head>() == 56);
+const _: () = assert!(size_of::<Record>() == 6728);
+const _: () = assert!(size_of::<Loaded>() == 88);
 const _: () = assert!(size_of::<Answer>() == 40);
 const _: () = assert!(size_of::<Rating>() == 24);
 const _: () = assert!(size_of::<Fits>() == 8);
 const _: () = assert!(size_of::<Form>() == 16);
-const _: () = assert!(size_of::<Written>() == 16);
 const _: () = assert!(size_of::<Explained>() == 64);
 
-/// The number of the boundary between this file and the library. A change of arguments or layouts changes it there and here, so that a
-/// library of another boundary does not link: it has no function of this name.
-#[used]
-static BOUNDARY: unsafe extern "C" fn() -> u32 = gettext_c_boundary_4;
-
 extern "C" {
-    fn gettext_c_boundary_4() -> u32;
     fn gettext_c_empty(
         codes: *mut [u8; 512],
-        fields: *mut [u16; 1024],
+        places: *mut [u16; 1024],
         values: *mut [u64; 512],
     ) -> Loaded;
     fn gettext_c_load(
@@ -166,14 +149,13 @@ extern "C" {
         utf8: u32,
         fit: u32,
         codes: *mut [u8; 512],
-        fields: *mut [u16; 1024],
+        places: *mut [u16; 1024],
         values: *mut [u64; 512],
     ) -> Loaded;
     fn gettext_c_gettext(
         file: *const u8,
         file_len: usize,
         head: *const Head,
-        words: *const Words,
         given: u32,
         context: *const u8,
         context_len: usize,
@@ -184,9 +166,8 @@ extern "C" {
         file: *const u8,
         file_len: usize,
         head: *const Head,
-        words: *const Words,
         codes: *const [u8; 512],
-        fields: *const [u16; 1024],
+        places: *const [u16; 1024],
         values: *const [u64; 512],
         given: u32,
         context: *const u8,
@@ -195,12 +176,11 @@ extern "C" {
         id_len: usize,
         n: u64,
     ) -> Answer;
-    fn gettext_c_slots(words: *const Words) -> usize;
+    fn gettext_c_slots(head: *const Head) -> usize;
     fn gettext_c_index(
         file: *const u8,
         file_len: usize,
         head: *const Head,
-        words: *const Words,
         slots: *mut u32,
         slots_len: usize,
     ) -> u32;
@@ -208,7 +188,6 @@ extern "C" {
         file: *const u8,
         file_len: usize,
         head: *const Head,
-        words: *const Words,
         slots: *const u32,
         slots_len: usize,
         given: u32,
@@ -221,11 +200,10 @@ extern "C" {
         file: *const u8,
         file_len: usize,
         head: *const Head,
-        words: *const Words,
         slots: *const u32,
         slots_len: usize,
         codes: *const [u8; 512],
-        fields: *const [u16; 1024],
+        places: *const [u16; 1024],
         values: *const [u64; 512],
         given: u32,
         context: *const u8,
@@ -237,27 +215,27 @@ extern "C" {
     fn gettext_c_rating(
         head: *const Head,
         codes: *const [u8; 512],
-        fields: *const [u16; 1024],
+        places: *const [u16; 1024],
         values: *const [u64; 512],
     ) -> Rating;
     fn gettext_c_fits(
         head: *const Head,
         codes: *const [u8; 512],
-        fields: *const [u16; 1024],
+        places: *const [u16; 1024],
         values: *const [u64; 512],
         k: u64,
     ) -> Fits;
     fn gettext_c_resolve(
         head: *const Head,
         codes: *const [u8; 512],
-        fields: *const [u16; 1024],
+        places: *const [u16; 1024],
         values: *const [u64; 512],
         n: u64,
     ) -> Form;
     fn gettext_c_span(
         head: *const Head,
         codes: *const [u8; 512],
-        fields: *const [u16; 1024],
+        places: *const [u16; 1024],
         values: *const [u64; 512],
         a: u64,
         b: u64,
@@ -266,7 +244,7 @@ extern "C" {
     fn gettext_c_text(
         head: *const Head,
         codes: *const [u8; 512],
-        fields: *const [u16; 1024],
+        places: *const [u16; 1024],
         values: *const [u64; 512],
         buffer: *mut u8,
         buffer_len: usize,
@@ -275,9 +253,8 @@ extern "C" {
         file: *const u8,
         file_len: usize,
         head: *const Head,
-        words: *const Words,
         codes: *const [u8; 512],
-        fields: *const [u16; 1024],
+        places: *const [u16; 1024],
         values: *const [u64; 512],
         given: u32,
         context: *const u8,
@@ -295,17 +272,15 @@ pub fn blank() -> Box<Record> {
     Box::new(Record {
         head: Head {
             length: 0,
-            nodes: 0,
-            root: 0,
-        },
-        words: Words {
             count: 0,
             originals: 0,
             translations: 0,
             big: 0,
+            nodes: 0,
+            root: 0,
         },
         values: [0; 512],
-        fields: [0; 1024],
+        places: [0; 1024],
         codes: [0; 512],
         forms: 0,
         counted: 0,
@@ -316,9 +291,7 @@ pub fn blank() -> Box<Record> {
 pub fn empty() -> Box<Record> {
     let mut r = blank();
     // SAFETY: the record's arrays live for the call, which writes them.
-    let loaded = unsafe { gettext_c_empty(&mut r.codes, &mut r.fields, &mut r.values) };
-    r.head = loaded.head;
-    r.words = loaded.words;
+    r.head = unsafe { gettext_c_empty(&mut r.codes, &mut r.places, &mut r.values) }.head;
     r
 }
 
@@ -344,12 +317,11 @@ pub fn load(
             u32::from(utf8),
             u32::from(fit),
             &mut r.codes,
-            &mut r.fields,
+            &mut r.places,
             &mut r.values,
         )
     };
     r.head = loaded.head;
-    r.words = loaded.words;
     r.forms = loaded.forms;
     r.counted = loaded.counted;
     loaded
@@ -357,8 +329,8 @@ pub fn load(
 
 /// How many slots the index of a record uses.
 pub fn slots(r: &Record) -> usize {
-    // SAFETY: the words live for the call and are only read.
-    unsafe { gettext_c_slots(&r.words) }
+    // SAFETY: the head lives for the call and is only read.
+    unsafe { gettext_c_slots(&r.head) }
 }
 
 /// Builds the index of a record and its file, and answers the number.
@@ -369,7 +341,6 @@ pub fn index(file: &[u8], r: &Record, slots: &mut [u32]) -> u32 {
             file.as_ptr(),
             file.len(),
             &r.head,
-            &r.words,
             slots.as_mut_ptr(),
             slots.len(),
         )
@@ -404,7 +375,6 @@ pub fn gettext(
                 bytes,
                 size,
                 &r.head,
-                &r.words,
                 given,
                 context.as_ptr(),
                 context.len(),
@@ -418,7 +388,6 @@ pub fn gettext(
                 bytes,
                 size,
                 &r.head,
-                &r.words,
                 slots.as_ptr(),
                 slots.len(),
                 given,
@@ -450,9 +419,8 @@ pub fn ngettext(
                 bytes,
                 size,
                 &r.head,
-                &r.words,
                 &r.codes,
-                &r.fields,
+                &r.places,
                 &r.values,
                 given,
                 context.as_ptr(),
@@ -468,11 +436,10 @@ pub fn ngettext(
                 bytes,
                 size,
                 &r.head,
-                &r.words,
                 slots.as_ptr(),
                 slots.len(),
                 &r.codes,
-                &r.fields,
+                &r.places,
                 &r.values,
                 given,
                 context.as_ptr(),
@@ -494,9 +461,8 @@ pub fn why(file: &[u8], r: &Record, context: Option<&[u8]>, id: &[u8], n: u64) -
             file.as_ptr(),
             file.len(),
             &r.head,
-            &r.words,
             &r.codes,
-            &r.fields,
+            &r.places,
             &r.values,
             given,
             context.as_ptr(),
@@ -510,17 +476,17 @@ pub fn why(file: &[u8], r: &Record, context: Option<&[u8]>, id: &[u8], n: u64) -
 
 pub fn rating(r: &Record) -> Rating {
     // SAFETY: the record's arrays live for the call and are only read.
-    unsafe { gettext_c_rating(&r.head, &r.codes, &r.fields, &r.values) }
+    unsafe { gettext_c_rating(&r.head, &r.codes, &r.places, &r.values) }
 }
 
 pub fn fits(r: &Record, k: u64) -> Fits {
     // SAFETY: the record's arrays live for the call and are only read.
-    unsafe { gettext_c_fits(&r.head, &r.codes, &r.fields, &r.values, k) }
+    unsafe { gettext_c_fits(&r.head, &r.codes, &r.places, &r.values, k) }
 }
 
 pub fn resolve(r: &Record, n: u64) -> Form {
     // SAFETY: the record's arrays live for the call and are only read.
-    unsafe { gettext_c_resolve(&r.head, &r.codes, &r.fields, &r.values, n) }
+    unsafe { gettext_c_resolve(&r.head, &r.codes, &r.places, &r.values, n) }
 }
 
 /// Writes the text of a record's rule.
@@ -530,7 +496,7 @@ pub fn text(r: &Record, buffer: &mut [u8]) -> Written {
         gettext_c_text(
             &r.head,
             &r.codes,
-            &r.fields,
+            &r.places,
             &r.values,
             buffer.as_mut_ptr(),
             buffer.len(),
@@ -540,7 +506,7 @@ pub fn text(r: &Record, buffer: &mut [u8]) -> Written {
 
 pub fn span(r: &Record, a: u64, b: u64, figures: &mut [u64; 18]) -> u32 {
     // SAFETY: the record's arrays live for the call and are only read; the figures live for the call, which writes them.
-    unsafe { gettext_c_span(&r.head, &r.codes, &r.fields, &r.values, a, b, figures) }
+    unsafe { gettext_c_span(&r.head, &r.codes, &r.places, &r.values, a, b, figures) }
 }
 
 pub fn is_utf8(text: &[u8]) -> bool {

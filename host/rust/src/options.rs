@@ -69,8 +69,7 @@ impl<'r> ParseOptions<'r> {
 
     /// Demands that the rule, a forced one too, fit the count of forms that the header gives, see [`Catalog::form_count`]: it has a range
     /// whose highest form is below that count, see [`Catalog::fits`]. A file whose rule does not, or that gives no count, is refused
-    /// with [`Error::NotFit`], after all its entries were tested. The rule `(n+1)/2` has the range 0 to 2^63-1 and is so refused; `(n+1)/2%8` has
-    /// the range 0 to 7 and fits 8 forms.
+    /// with [`Error::NotFit`], after all its entries were tested.
     ///
     /// Of a file so loaded it is proved that, for every `n`, a plural lookup whose entry stores at least as many forms as the header
     /// says answers one of them.

@@ -13,7 +13,7 @@ pub enum Reason {
     StaleLength,
     /// The nodes of the record's rule are no tree. It cannot come from a [`Catalog`](crate::Catalog).
     NoTree,
-    /// The plural rule takes a remainder or quotient by zero at this count.
+    /// The plural rule divides by zero, or takes a remainder by zero, at this count.
     ZeroDivisor {
         /// The count.
         n: u64,

@@ -1,4 +1,4 @@
-//! Small files and rules: F and G of SPEC 17 with their variants, every refusal that a file can get, and the lookups over files made
+//! Small files and rules: document 01's F and G with their variants, every refusal that a file can get, and the lookups over files made
 //! here.
 
 use gettext_rattle::{
@@ -13,7 +13,7 @@ use std::sync::Arc;
 /// The example's German catalog.
 const DE: &str = concat!(env!("CARGO_MANIFEST_DIR"), "/../../examples/de.mo");
 
-/// The file F of SPEC 17: one entry, "a" translated as "b".
+/// Document 01's file F: one entry, "a" translated as "b".
 const F: [u8; 48] = [
     0xde, 0x12, 0x04, 0x95, 0, 0, 0, 0, 1, 0, 0, 0, 0x1c, 0, 0, 0, 0x24, 0, 0, 0, 0, 0, 0, 0, 0x2c,
     0, 0, 0, 1, 0, 0, 0, 0x2c, 0, 0, 0, 1, 0, 0, 0, 0x2e, 0, 0, 0, 0x61, 0, 0x62, 0,
@@ -26,7 +26,7 @@ fn with(at: usize, byte: u8) -> Vec<u8> {
     file
 }
 
-/// The file G of SPEC 17: F with the forms "b" and "c".
+/// Document 01's file G: F with the forms "b" and "c".
 fn g() -> Vec<u8> {
     let mut file = with(36, 3);
     file.extend(b"c\0");
@@ -985,8 +985,7 @@ fn an_index_wants_its_slots() {
 
 #[test]
 fn an_indexed_catalog_is_data() {
-    type Indexed = Catalog<Vec<u8>, Vec<u32>>;
-    let shop: HashMap<&str, Arc<Indexed>> = HashMap::from([(
+    let shop: HashMap<&str, Arc<Catalog<Vec<u8>, Vec<u32>>>> = HashMap::from([(
         "de",
         Arc::new(Catalog::parse(File::open(DE).unwrap()).unwrap().indexed()),
     )]);

@@ -80,9 +80,7 @@ fn rule(again: &str, middle: &str, back: &str) -> String {
 
 /// A catalog whose header has the rule, with "one" in two forms, alone and in a context.
 fn file(rule: &str) -> Vec<u8> {
-    let header = format!(
-        "Content-Type: text/plain; charset=UTF-8\nPlural-Forms: nplurals=2; plural={rule};\n"
-    );
+    let header = format!("Content-Type: text/plain; charset=UTF-8\nPlural-Forms: nplurals=2; plural={rule};\n");
     let texts = ["", "menu\u{4}one", "one", &header, "a\0b", "c\0d"];
     let mut tables = Vec::new();
     let mut strings = Vec::new();
@@ -109,16 +107,10 @@ fn call_all(stack: &mut Stack, catalog: &Catalog<&[u8]>, indexed: &Catalog<&[u8]
         let form = stack.call(|| catalog.resolve(n));
         let _ = stack.call(|| catalog.forms_over(n..=n).is_ok());
         let text = stack.call(|| catalog.ngettext_bytes(b"one", b"many", n));
-        assert_eq!(
-            text,
-            stack.call(|| indexed.ngettext_bytes(b"one", b"many", n))
-        );
+        assert_eq!(text, stack.call(|| indexed.ngettext_bytes(b"one", b"many", n)));
         assert_eq!(text == b"c", form == Some(0));
         let text = stack.call(|| catalog.npgettext("menu", "one", "many", n));
-        assert_eq!(
-            text,
-            stack.call(|| indexed.npgettext("menu", "one", "many", n))
-        );
+        assert_eq!(text, stack.call(|| indexed.npgettext("menu", "one", "many", n)));
         assert_eq!(text == "b", form == Some(1));
     }
     let text = stack.call(|| catalog.rule_text());
@@ -168,10 +160,7 @@ fn deepest_rules() {
         }
     }
     assert!(loaded >= 20, "{loaded}");
-    println!(
-        "a load took {} bytes of {LOAD}, any other call {} of {CALL}",
-        loads.most, calls.most
-    );
+    println!("a load took {} bytes of {LOAD}, any other call {} of {CALL}", loads.most, calls.most);
 }
 
 #[test]

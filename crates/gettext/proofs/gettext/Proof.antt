@@ -4,6 +4,11 @@ use Rattle.lookup.specs.Text.{singular_text}
 use borrow.Author.Rules.{rules}
 use Rattle.gettext.proofs.gettext.Statement.{statement}
 use Rattle.gettext.proofs.gettext.Tie as tie
+use Rattle.gettext.proofs.gettext.Reads as reads
+use Rattle.gettext.proofs.gettext.Lts as lts
+use Rattle.gettext.proofs.answer_gettext.Reads as answer-gettext-reads
+use Rattle.lookup.proofs.singular_text.Reads as singular-text-reads
+use Rattle.lookup.proofs.text_of.Reads as text-of-reads
 
 answer-gettext-requires : tie.Need-answer-gettext-requires
 answer-gettext-requires c κs = search rules

@@ -4,6 +4,11 @@ use Rattle.lookup.specs.Text.{plural_text}
 use borrow.Author.Rules.{rules}
 use Rattle.gettext.proofs.ngettext.Statement.{statement}
 use Rattle.gettext.proofs.ngettext.Tie as tie
+use Rattle.gettext.proofs.ngettext.Reads as reads
+use Rattle.gettext.proofs.ngettext.Lts as lts
+use Rattle.gettext.proofs.answer_ngettext.Reads as answer-ngettext-reads
+use Rattle.lookup.proofs.plural_text.Reads as plural-text-reads
+use Rattle.lookup.proofs.text_of.Reads as text-of-reads
 
 answer-ngettext-requires : tie.Need-answer-ngettext-requires
 answer-ngettext-requires c κs = search rules

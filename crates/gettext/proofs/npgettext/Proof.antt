@@ -4,6 +4,11 @@ use Rattle.lookup.specs.Text.{plural_text}
 use borrow.Author.Rules.{rules}
 use Rattle.gettext.proofs.npgettext.Statement.{statement}
 use Rattle.gettext.proofs.npgettext.Tie as tie
+use Rattle.gettext.proofs.npgettext.Reads as reads
+use Rattle.gettext.proofs.npgettext.Lts as lts
+use Rattle.gettext.proofs.answer_npgettext.Reads as answer-npgettext-reads
+use Rattle.lookup.proofs.plural_text.Reads as plural-text-reads
+use Rattle.lookup.proofs.text_of.Reads as text-of-reads
 
 answer-npgettext-requires : tie.Need-answer-npgettext-requires
 answer-npgettext-requires c κs = search rules

@@ -4,6 +4,11 @@ use Rattle.lookup.specs.Text.{singular_text}
 use borrow.Author.Rules.{rules}
 use Rattle.gettext.proofs.pgettext.Statement.{statement}
 use Rattle.gettext.proofs.pgettext.Tie as tie
+use Rattle.gettext.proofs.pgettext.Reads as reads
+use Rattle.gettext.proofs.pgettext.Lts as lts
+use Rattle.gettext.proofs.answer_pgettext.Reads as answer-pgettext-reads
+use Rattle.lookup.proofs.singular_text.Reads as singular-text-reads
+use Rattle.lookup.proofs.text_of.Reads as text-of-reads
 
 answer-pgettext-requires : tie.Need-answer-pgettext-requires
 answer-pgettext-requires c κs = search rules

@@ -2,6 +2,10 @@
 use borrow.Author.Rules.{rules}
 use Rattle.gettext_c.proofs.gettext_c_is_utf8.Statement.{statement}
 use Rattle.gettext_c.proofs.gettext_c_is_utf8.Tie as tie
+use Rattle.gettext_c.proofs.gettext_c_is_utf8.Reads as reads
+use Rattle.gettext_c.proofs.gettext_c_is_utf8.Lts as lts
+use Rattle.host.proofs.flag_of.Reads as flag-of-reads
+use Rattle.text_utf8.proofs.is_utf8.Reads as is-utf8-reads
 
 is-utf8-requires : tie.Need-is-utf8-requires
 is-utf8-requires c κs = search rules

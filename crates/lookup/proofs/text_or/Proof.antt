@@ -13,7 +13,7 @@ returns : tie.Need-returns
 returns c = own_text _ c.before.args.reason c.match.keys2
 
 returns-2 : tie.Need-returns-2
-returns-2 c = told (text_or c.before.before.before.args.own_val) c.before.reason.given.1
+returns-2 c = told (text_or c.before.before.before.args.own) c.before.reason.given.1
 
 pub text_or_spec : {M : Type 1} → statement M
 text_or_spec = tie.close (tie.spec enum-known-reason returns returns-2)

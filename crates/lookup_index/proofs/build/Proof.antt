@@ -5,11 +5,8 @@ use borrow.Author.Rules.{rules}
 use Rattle.lookup_index.proofs.build.Statement.{statement}
 use Rattle.lookup_index.proofs.build.Tie as tie
 
-is-stale-requires : tie.Need-is-stale-requires
-is-stale-requires c κs = search rules
-
 returns : tie.Need-returns
-returns c = (build_stale _ _ _ c.before.is-stale.ensures c.if1.true, refl)
+returns c = (build_stale _ _ _ c.if1.true, refl)
 
 room-for-requires : tie.Need-room-for-requires
 room-for-requires c κs = search rules
@@ -21,7 +18,7 @@ enum_told : tie.Need-enum-told
 enum_told c = search rules
 
 returns-2 : tie.Need-returns-2
-returns-2 c = (build_none c.before.before.before.before.before.before.before.args.file.now c.before.before.before.before.before.before.before.args.t c.before.before.before.before.before.before.before.args.slots.now c.before.before.room_for.ensures c.before.before.before.before.is-stale.ensures c.before.before.before.if1.false c.enum_told.given.1, refl)
+returns-2 c = (build_none c.before.before.before.before.before.before.before.args.file.now c.before.before.before.before.before.before.before.args.t c.before.before.before.before.before.before.before.args.slots.now c.before.before.room_for.ensures c.before.before.before.if1.false c.enum_told.given.1, refl)
 
 slice-relend-prefix-fill : tie.Need-slice-relend-prefix-fill
 slice-relend-prefix-fill c = room_fits c.before.before.before.before.before.before.before.before.args.file.now c.before.before.before.before.before.before.before.before.args.t c.before.before.before.before.before.before.before.before.args.slots.now c.before.before.before.room_for.ensures c.before.room.given.1
@@ -36,13 +33,12 @@ same_length : tie.Need-same-length
 same_length c = search rules
 
 returns-3 : tie.Need-returns-3
-returns-3 c = (build_done c.before.before.before.before.before.before.before.before.before.before.before.before.args.file.now c.before.before.before.before.before.before.before.before.before.before.before.before.args.t c.before.before.before.before.before.before.before.before.before.before.before.before.args.slots.now c.before.before.before.before.before.before.before.room_for.ensures c.before.before.before.before.before.room.given.1 c.before.before.before.before.before.before.before.before.before.is-stale.ensures c.before.before.before.before.before.before.before.before.if1.false, given_back c.before.before.before.before.before.before.before.before.before.before.before.before.args.file.now c.before.before.before.before.before.before.before.before.before.before.before.before.args.t c.before.before.before.before.before.before.before.before.before.before.before.before.args.slots.now c.before.before.before.before.before.before.before.room_for.ensures c.before.before.before.before.before.room.given.1 c.before.before.fill.ensures)
+returns-3 c = (build_done c.before.before.before.before.before.before.before.before.before.before.before.before.args.file.now c.before.before.before.before.before.before.before.before.before.before.before.before.args.t c.before.before.before.before.before.before.before.before.before.before.before.before.args.slots.now c.before.before.before.before.before.before.before.room_for.ensures c.before.before.before.before.before.room.given.1 c.before.before.before.before.before.before.before.before.if1.false, given_back c.before.before.before.before.before.before.before.before.before.before.before.before.args.file.now c.before.before.before.before.before.before.before.before.before.before.before.before.args.t c.before.before.before.before.before.before.before.before.before.before.before.before.args.slots.now c.before.before.before.before.before.before.before.room_for.ensures c.before.before.before.before.before.room.given.1 c.before.before.fill.ensures)
 
 pub build_spec : {M : Type 1} → statement M
 build_spec =
     tie.close
     (tie.spec
-    is-stale-requires
     returns
     room-for-requires
     enum-known-room

@@ -1,5 +1,5 @@
 -- Too few slots, or the hit in those that are used. Assumes nothing.
-use Rattle.lookup.specs.Keys.{key_of}
+use Rattle.lookup_scan.specs.Keys.{key_of}
 use Rattle.lookup_index.proofs.Lent.{part_length, power_used, sought_none, sought_hit}
 use borrow.Author.Rules.{rules}
 use Rattle.lookup_index.proofs.find.Statement.{statement}

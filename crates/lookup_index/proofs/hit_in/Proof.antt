@@ -1,5 +1,5 @@
 -- A key as long as the file has no entry; else the search says. Assumes nothing.
-use Rattle.lookup.specs.Keys.{key_of}
+use Rattle.lookup_scan.specs.Keys.{key_of}
 use Rattle.lookup_scan.proofs.Keys.{sized_is, sized_long}
 use Rattle.lookup_index.proofs.Searched.{hit_long}
 use borrow.Author.Rules.{rules}

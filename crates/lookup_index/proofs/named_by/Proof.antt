@@ -1,5 +1,5 @@
 -- An empty slot, no entry, or an entry with the key or another. Assumes nothing.
-use Rattle.lookup.specs.Keys.{key_of}
+use Rattle.lookup_scan.specs.Keys.{key_of}
 use Rattle.lookup_index.proofs.Searched.{named_empty, named_above, named_below}
 use borrow.Author.Rules.{rules}
 use Rattle.lookup_index.proofs.named_by.Statement.{statement}

@@ -1,5 +1,5 @@
 -- Slot after slot, to the first that is empty or names an entry with the key. Assumes nothing.
-use Rattle.lookup.specs.Keys.{key_of}
+use Rattle.lookup_scan.specs.Keys.{key_of}
 use Rattle.lookup_index.proofs.Searched.{Searched, searched_first, searched_on, stop_end, stop_empty, stop_named}
 use borrow.Author.Rules.{rules}
 use Rattle.lookup_index.proofs.search.Statement.{statement}

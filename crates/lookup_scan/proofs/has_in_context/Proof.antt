@@ -20,23 +20,23 @@ returns c = no_context _ _ _ _ c.before.in-context.ensures (not-true _ c.if1.tru
 add-from : tie.Need-overflow-add-from
 add-from c = search rules
 
-sub-equal-at-least : tie.Need-overflow-sub-equal-at-least
-sub-equal-at-least c = after_inside _ _ _ _ c.before.in-context.ensures (not-false _ c.if1.false) c.before.before.before.before.before.before.requires
+sub-same-from : tie.Need-overflow-sub-same-from
+sub-same-from c = after_inside _ _ _ _ c.before.in-context.ensures (not-false _ c.if1.false) c.before.before.before.before.before.before.requires
 
-part-equal-at-least-start : tie.Need-slice-bounds-equal-at-least-start
-part-equal-at-least-start c = after_inside _ _ _ _ c.before.in-context.ensures (not-false _ c.if1.false) c.before.before.before.before.before.before.requires
+part-same-from-start : tie.Need-slice-bounds-same-from-start
+part-same-from-start c = after_inside _ _ _ _ c.before.in-context.ensures (not-false _ c.if1.false) c.before.before.before.before.before.before.requires
 
-part-equal-at-least-end : tie.Need-slice-bounds-equal-at-least-end
-part-equal-at-least-end c = omega (arith, c.before.before.before.before.before.before.requires.longer)
+part-same-from-end : tie.Need-slice-bounds-same-from-end
+part-same-from-end c = omega (arith, c.before.before.before.before.before.before.requires.longer)
 
-equal-at-least-requires : tie.Need-equal-at-least-requires
-equal-at-least-requires c κs = search rules
+same-from-requires : tie.Need-same-from-requires
+same-from-requires c κs = search rules
 
 all-within-requires : tie.Need-all-within-requires
 all-within-requires c κs = search rules
 
 returns-2 : tie.Need-returns-2
-returns-2 c = plain_context _ _ _ _ c.before.before.before.before.before.before.in-context.ensures (not-false _ c.before.before.before.before.before.if1.false) c.before.before.before.before.before.before.before.before.before.before.before.requires c.before.before.before.equal_at_least.ensures c.before.before.if2.true c.before.all-within.ensures c.if3.true
+returns-2 c = plain_context _ _ _ _ c.before.before.before.before.before.before.in-context.ensures (not-false _ c.before.before.before.before.before.if1.false) c.before.before.before.before.before.before.before.before.before.before.before.requires c.before.before.before.same_from.ensures c.before.before.if2.true c.before.all-within.ensures c.if3.true
 
 has-any-key-requires : tie.Need-has-any-key-requires
 has-any-key-requires c κs = (after_inside _ _ _ _ c.before.before.before.before.in-context.ensures (not-false _ c.before.before.before.if1.false) c.before.before.before.before.before.before.before.before.before.requires, omega (arith, c.before.before.before.before.before.before.before.before.before.requires.longer))
@@ -52,10 +52,10 @@ has_in_context_spec =
     in-context-requires
     returns
     add-from
-    sub-equal-at-least
-    part-equal-at-least-start
-    part-equal-at-least-end
-    equal-at-least-requires
+    sub-same-from
+    part-same-from-start
+    part-same-from-end
+    same-from-requires
     all-within-requires
     returns-2
     has-any-key-requires

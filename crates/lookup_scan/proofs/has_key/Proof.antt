@@ -22,11 +22,11 @@ shared-slice-read-if3-2 c = omega (arith, own_length _ _ _ _ _ c.before.before.b
 returns-2 : tie.Need-returns-2
 returns-2 c = other_first _ _ _ _ _ c.before.before.before.before.if1.false c.before.before.before.if2.true c.if3.true
 
-slice-aggregate-equal-at-least : tie.Need-slice-aggregate-equal-at-least
-slice-aggregate-equal-at-least c = sym (length-take-le _ _ (omega (arith, c.before.before.before.before.before.before.requires.longer)))
+slice-aggregate-same-from : tie.Need-slice-aggregate-same-from
+slice-aggregate-same-from c = sym (length-take-le _ _ (omega (arith, c.before.before.before.before.before.before.requires.longer)))
 
-equal-at-least-requires : tie.Need-equal-at-least-requires
-equal-at-least-requires c κs = search rules
+same-from-requires : tie.Need-same-from-requires
+same-from-requires c κs = search rules
 
 add-find-byte-from : tie.Need-overflow-add-find-byte-from
 add-find-byte-from c = omega (arith, c.before.before.before.before.before.before.before.before.requires.longer)
@@ -35,7 +35,7 @@ find-byte-from-requires : tie.Need-find-byte-from-requires
 find-byte-from-requires c κs = search rules
 
 returns-3 : tie.Need-returns-3
-returns-3 c = plain_alone _ _ _ _ _ c.before.before.before.before.before.if1.false c.before.before.before.before.before.before.before.before.before.requires c.before.before.equal_at_least.ensures c.before.if4.true c.find-byte-from.ensures
+returns-3 c = plain_alone _ _ _ _ _ c.before.before.before.before.before.if1.false c.before.before.before.before.before.before.before.before.before.requires c.before.before.same_from.ensures c.before.if4.true c.find-byte-from.ensures
 
 has-any-key-requires : tie.Need-has-any-key-requires
 has-any-key-requires c κs = (omega arith, omega (arith, c.before.before.before.before.before.before.before.before.requires.longer))
@@ -52,8 +52,8 @@ has_key_spec =
     shared-slice-read-if3
     shared-slice-read-if3-2
     returns-2
-    slice-aggregate-equal-at-least
-    equal-at-least-requires
+    slice-aggregate-same-from
+    same-from-requires
     add-find-byte-from
     find-byte-from-requires
     returns-3

@@ -2,7 +2,7 @@
 use mathlib.Core.Path.{◌≡◌, refl, sym, ◌∙◌}
 use borrow.Author.Tests.{not-true, not-false}
 use Rattle.container_layout.proofs.Cells.{string_told}
-use Rattle.lookup.specs.Keys.{key_of}
+use Rattle.lookup_scan.specs.Keys.{key_of}
 use Rattle.lookup_scan.proofs.Entries.{may_not_outside, may_by_end, starts_by_end}
 use Rattle.lookup_scan.proofs.Scan.{hit_false}
 use borrow.Author.Rules.{rules}

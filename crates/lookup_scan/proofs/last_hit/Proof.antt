@@ -4,7 +4,7 @@ use mathlib.Core.Path.{◌≡◌, sym}
 use lib.ListN.{length}
 use native.Mathlib.Omega.{arith}
 use borrow.Author.Rules.{rules}
-use Rattle.lookup.specs.Keys.{key_of}
+use Rattle.lookup_scan.specs.Keys.{key_of}
 use Rattle.lookup_scan.proofs.Keys.{sized_is, sized_long}
 use Rattle.lookup_scan.proofs.Scan.{too_long, Passed, passed_first, passed_end, passed_hit, passed_miss, passed_quick}
 use Rattle.lookup_scan.proofs.last_hit.Statement.{statement}

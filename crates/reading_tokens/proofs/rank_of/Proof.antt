@@ -4,7 +4,7 @@ use Prim.Native.Nat.{ℕ, ◌-◌}
 use native.Mathlib.Omega.{arith}
 use lib.ListN.{get_or}
 use Rattle.rules.specs.Operator.{op_code}
-use Rattle.rules.specs.Nodes.{pair_op}
+use Rattle.rules.specs.Pool.{pair_op}
 use Rattle.rules.proofs.Operators.{code_in}
 use Rattle.reading_tokens.proofs.Rows.{ranks, ranked}
 use borrow.Author.Rules.{rules}

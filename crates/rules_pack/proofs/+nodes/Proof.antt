@@ -3,7 +3,7 @@
 use mathlib.Core.Path.{refl}
 use native.Mathlib.Omega.{arith}
 use borrow.Author.Rules.{rules}
-use Rattle.rules.specs.Nodes.{Nodes, nodes_of, code, tree_of, n_op, rest_op, pick_node, value_op, pair_op, choice_node}
+use Rattle.rules.specs.Pool.{Pool, pool, code, tree_of, n_op, rest_op, pick_node, value_op, pair_op, choice_node}
 use Rattle.rules.proofs.Stored.{packed_pos}
 use Rattle.rules_pack.proofs.Laws.{Pair, last_in_lem, left_in, mid_in, binary, lower, inside, high, IsLeaf, IsOne, IsTwo, IsThree, is_var, is_int, is_nay, is_three, is_chosen, is_picked, is_two, is_op, is_rest, is_one, size_leaf, size_one, size_two, size_three, past, cond_room, done_leaf, done_one, done_two, done_three, call}
 use Prim.Native.Nat.{ℕ, ◌+◌, ◌-◌, ◌<◌}
@@ -36,8 +36,8 @@ R-nodes t = (put_reads.Asked, put_reads.Learnt, nodes-below t, nodes.Post, place
 abbrev St : ℕ → Type 0
 St t = nodes-lts.Start (R-nodes t) (nodes-at t) nodes.Post
 
-abbrev P : {t : ℕ} → St t → Nodes
-P s = nodes_of s.args.codes.now s.args.fields.now s.args.values.now
+abbrev P : {t : ℕ} → St t → Pool
+P s = pool s.args.codes.now s.args.places.now s.args.values.now
 
 -- what the tree at the place is packed to, once the tests before have told
 three-here : {t : ℕ} (d : nodes-lts.After-enum-told (R-nodes t) (nodes-at t) nodes.Post) → IsThree (tree_of (P d.before.before.before.before.before.before.before.before.before.before.before.before.before.before) d.before.before.before.before.before.before.before.before.before.before.before.before.before.before.args.at) (tree_of (P d.before.before.before.before.before.before.before.before.before.before.before.before.before.before) d.before.before.before.before.before.before.before.before.before.place.result) (tree_of (P d.before.before.before.before.before.before.before.before.before.before.before.before.before.before) d.before.before.before.before.before.before.before.place2.result) (tree_of (P d.before.before.before.before.before.before.before.before.before.before.before.before.before.before) (d.before.before.before.before.before.before.before.before.before.before.before.before.before.before.args.at - 1))

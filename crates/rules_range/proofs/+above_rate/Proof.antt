@@ -4,7 +4,7 @@ use mathlib.Core.Path.{◌≡◌, sym, ◌∙◌}
 use native.Mathlib.Omega.{arith}
 use borrow.Author.Rules.{rules}
 use Rattle.rules.specs.Range.{rate_tree}
-use Rattle.rules.specs.Nodes.{Nodes, nodes_of, value, tree_of, ternary_node}
+use Rattle.rules.specs.Pool.{Pool, pool, value, tree_of, ternary_node}
 use Rattle.rules.proofs.Trees.{before_in, first_in, second_in}
 use Rattle.rules_tree.specs.Promise.{Run}
 use Rattle.rules_tree.proofs.Runs.{low, down_to, inside, falls_to, leaf_first, leaf_last}
@@ -56,8 +56,8 @@ R-rate t = (base-reads.Asked, base-reads.Learnt, leaf-reads.Asked, leaf-reads.Le
 abbrev Sa : ℕ → Type 0
 Sa t = above-lts.Start (R-above t) (above_at t) above.Post
 
-abbrev P : {t : ℕ} → Sa t → Nodes
-P s = nodes_of s.args.codes.now s.args.fields.now s.args.values.now
+abbrev P : {t : ℕ} → Sa t → Pool
+P s = pool s.args.codes.now s.args.places.now s.args.values.now
 
 above-element-copy-out-code : (t : ℕ) → above-lts.Need-element-copy-out-code (R-above t) (above_at t) above.Post
 above-element-copy-out-code t c = let s : Sa t = c in inside s.pre.1.0
@@ -111,10 +111,10 @@ above-returns-5 : (t : ℕ) → above-lts.Need-returns-5 (R-above t) (above_at t
 above-returns-5 t c = let s : Sa t = c.before.before.before.before.before.before.before.before.before.before.before.before.before in record { is = λ g. rate_three (P s) s.args.at (before_in s.requires.1.0 s.requires.1.1) g (first_in s.requires.1.0 c.before.before.before.before.before.before.before.before.before.before.before.if1.false) (moved (P s) c.before.before.before.before.before.before.before.before.rate.ensures c.before.before.before.before.before.before.before.before.before.before.place.ensures) c.before.before.before.before.before.if4.false (second_in s.requires.1.0 c.before.before.before.before.before.if4.false) (moved (P s) c.before.before.rate2.ensures c.before.before.before.before.place2.ensures) (c.either2.ensures ∙ sym (any_condition _ _ _ _ c.before.before.before.before.before.before.if3.false)) }
 
 abbrev rate-Inv-loop : rate-lts.invariant-loop
-rate-Inv-loop codes fields values at high₀ p₀ low₀ high p low = Run codes at (ternary_node + 1) p × (from_to low high ≡ rate_tree (tree_of (nodes_of codes fields values) p))
+rate-Inv-loop codes places values at high₀ p₀ low₀ high p low = Run codes at (ternary_node + 1) p × (from_to low high ≡ rate_tree (tree_of (pool codes places values) p))
 
 abbrev rate-μ-loop : rate-lts.decreases-loop
-rate-μ-loop codes fields values at high₀ p₀ low₀ high p low = at - p
+rate-μ-loop codes places values at high₀ p₀ low₀ high p low = at - p
 
 abbrev Sr : ℕ → Type 0
 Sr t = rate-lts.Start (R-rate t) (rate-at t) rate.Post rate-Inv-loop rate-μ-loop
@@ -141,7 +141,7 @@ rate-loop-again : (t : ℕ) → rate-lts.Need-loop-preserved (R-rate t) (rate-at
 rate-loop-again t c = (on_run c.before.before.before.loop.invariant.0 (omega arith), lift_on (omega arith) c.before.before.before.loop.invariant.1 c.above.ensures)
 
 rate-returns : (t : ℕ) → rate-lts.Need-returns (R-rate t) (rate-at t) rate.Post rate-Inv-loop rate-μ-loop
-rate-returns t c = let s : Sr t = c.before.before.before.before.before in ended (nodes_of s.args.codes.now s.args.fields.now s.args.values.now) c.before.loop.invariant.0.below (omega arith) c.before.loop.invariant.1
+rate-returns t c = let s : Sr t = c.before.before.before.before.before in ended (pool s.args.codes.now s.args.places.now s.args.values.now) c.before.loop.invariant.0.below (omega arith) c.before.loop.invariant.1
 
 pub +above-rate-spec : {M : Type 1} → statement M
 +above-rate-spec = close μ-above μ-rate (λ t. above-lts.spec

@@ -1,6 +1,6 @@
 -- `rating::fits` meets its contract: whether a rule fits is settled by its range.
 use mathlib.Core.Path.{refl, ap}
-use Rattle.rules.specs.Nodes.{Nodes, nodes_of}
+use Rattle.rules.specs.Pool.{Pool, pool}
 use borrow.Author.Tests.{lt-ltb, le-ltb}
 use Rattle.rules.specs.Answer.{fitting}
 use Rattle.rules.proofs.Answers.{fits_as}
@@ -8,8 +8,8 @@ use borrow.Author.Rules.{rules}
 use Rattle.rules_range.proofs.fits.Statement.{statement}
 use Rattle.rules_range.proofs.fits.Tie as tie
 
-abbrev P : tie.Start → Nodes
-P s = nodes_of s.args.codes.now s.args.fields.now s.args.values.now
+abbrev P : tie.Start → Pool
+P s = pool s.args.codes.now s.args.places.now s.args.values.now
 
 rating-of-requires : tie.Need-rating-of-requires
 rating-of-requires c κs = search rules

@@ -1,14 +1,14 @@
 -- `rules_range::leaf` meets its contract: each return is the range of the tree that the tests before it leave.
 use mathlib.Core.Path.{◌∙◌}
 use native.Mathlib.Omega.{arith}
-use Rattle.rules.specs.Nodes.{Nodes, nodes_of, value}
+use Rattle.rules.specs.Pool.{Pool, pool, value}
 use Rattle.rules_range.proofs.Ranges.{range_of_lem, ends_of, rate_count, rate_int, rate_op, rate_rest}
 use borrow.Author.Rules.{rules}
 use Rattle.rules_range.proofs.leaf.Statement.{statement}
 use Rattle.rules_range.proofs.leaf.Tie as tie
 
-abbrev P : tie.Start → Nodes
-P s = nodes_of s.args.codes.now s.args.fields.now s.args.values.now
+abbrev P : tie.Start → Pool
+P s = pool s.args.codes.now s.args.places.now s.args.values.now
 
 element-copy-out-code : tie.Need-element-copy-out-code
 element-copy-out-code c = search rules

@@ -2,15 +2,15 @@
 use Prim.Native.Nat.{◌-◌, ◌<◌}
 use mathlib.Core.Path.{sym, ◌∙◌}
 use native.Mathlib.Omega.{arith}
-use Rattle.rules.specs.Nodes.{Nodes, nodes_of, value}
+use Rattle.rules.specs.Pool.{Pool, pool, value}
 use Rattle.rules.proofs.Trees.{before_in}
 use Rattle.rules_range.proofs.Ranges.{range_of_lem, any_condition, none_of, nay_of, picked_of, rate_none, rate_nay, rate_picked, rate_one}
 use borrow.Author.Rules.{rules}
 use Rattle.rules_range.proofs.one.Statement.{statement}
 use Rattle.rules_range.proofs.one.Tie as tie
 
-abbrev P : tie.Start → Nodes
-P s = nodes_of s.args.codes.now s.args.fields.now s.args.values.now
+abbrev P : tie.Start → Pool
+P s = pool s.args.codes.now s.args.places.now s.args.values.now
 
 lower : (s : tie.Start) → s.args.at - 1 < s.args.at
 lower s = before_in s.requires.0 s.requires.1.0

@@ -1,6 +1,6 @@
--- `rules_range::rating_of` meets its contract: nodes that pass the tree test can be walked from the root, and the walk gives the range.
+-- `rules_range::rating_of` meets its contract: a pool that passes the tree test can be walked from its root, and the walk gives the range.
 use mathlib.Core.Path.{sym}
-use Rattle.rules.specs.Nodes.{Nodes, nodes_of}
+use Rattle.rules.specs.Pool.{Pool, pool}
 use Rattle.rules.proofs.Trees.{told, sound}
 use Rattle.rules.proofs.Answers.{rates, rated_none}
 use Rattle.rules_range.proofs.Ranges.{range_of_lem, none_of}
@@ -8,8 +8,8 @@ use borrow.Author.Rules.{rules}
 use Rattle.rules_range.proofs.rating_of.Statement.{statement}
 use Rattle.rules_range.proofs.rating_of.Tie as tie
 
-abbrev P : tie.Start → Nodes
-P s = nodes_of s.args.codes.now s.args.fields.now s.args.values.now
+abbrev P : tie.Start → Pool
+P s = pool s.args.codes.now s.args.places.now s.args.values.now
 
 is-tree-requires : tie.Need-is-tree-requires
 is-tree-requires c κs = search rules

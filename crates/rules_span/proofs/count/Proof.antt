@@ -3,7 +3,7 @@ use Prim.Native.Nat.{ℕ, ◌+◌, ◌-◌, ◌≤◌}
 use mathlib.Core.Path.{◌≡◌, refl, sym, ap, ◌∙◌}
 use native.Mathlib.Omega.{arith}
 use Rattle.rules.specs.Tree.{Tree}
-use Rattle.rules.specs.Nodes.{nodes_of, tree_of}
+use Rattle.rules.specs.Pool.{pool, tree_of}
 use Rattle.rules_span.specs.Span.{tallied}
 use Rattle.rules_span.proofs.Figures.{line_of_in, room, counted_on, from_none}
 use borrow.Author.Rules.{rules}
@@ -16,10 +16,10 @@ use Rattle.rules_span.proofs.line_of.Reads as line-of-reads
 use Rattle.rules_value.proofs.value_at.Reads as value-at-reads
 
 abbrev invariant-loop : tie.invariant-loop
-invariant-loop codes fields values root a many figures₀ k₀ figures k = (figures ≡ tallied (tree_of (nodes_of codes fields values) root) a k) × (k ≤ many)
+invariant-loop codes places values root a many figures₀ k₀ figures k = (figures ≡ tallied (tree_of (pool codes places values) root) a k) × (k ≤ many)
 
 abbrev decreases-loop : tie.decreases-loop
-decreases-loop codes fields values root a many figures₀ k₀ figures k = many - k
+decreases-loop codes places values root a many figures₀ k₀ figures k = many - k
 
 loop-holds : tie.Need-loop-init invariant-loop decreases-loop
 loop-holds c = (from_none _ _ c.requires.1.1, omega arith)

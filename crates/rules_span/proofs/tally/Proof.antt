@@ -2,7 +2,7 @@
 use mathlib.Core.Path.{◌≡◌, refl, sym, ap, ◌∙◌}
 use native.Mathlib.Omega.{arith}
 use borrow.Author.Tests.{not-true, not-false}
-use Rattle.rules.specs.Nodes.{Nodes, nodes_of}
+use Rattle.rules.specs.Pool.{Pool, pool}
 use Rattle.rules.proofs.Trees.{sound, told}
 use Rattle.rules_span.proofs.Figures.{no_tree, below, long, counted}
 use borrow.Author.Rules.{rules}
@@ -13,8 +13,8 @@ use Rattle.rules_span.proofs.tally.Lts as lts
 use Rattle.rules_span.proofs.count.Reads as count-reads
 use Rattle.rules_tree.proofs.is_tree.Reads as is-tree-reads
 
-abbrev P : tie.Start → Nodes
-P s = nodes_of s.args.codes.now s.args.fields.now s.args.values.now
+abbrev P : tie.Start → Pool
+P s = pool s.args.codes.now s.args.places.now s.args.values.now
 
 is-tree-requires : tie.Need-is-tree-requires
 is-tree-requires c κs = search rules

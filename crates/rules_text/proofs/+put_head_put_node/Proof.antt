@@ -2,7 +2,7 @@
 -- loop's invariant: what stands before the node at q was put; the second's: that, and the text of this node.
 use native.Mathlib.Omega.{arith}
 use borrow.Author.Rules.{rules}
-use Rattle.rules.specs.Nodes.{Nodes, nodes_of, ternary_node}
+use Rattle.rules.specs.Pool.{Pool, pool, ternary_node}
 use Rattle.rules.proofs.Operators.{named}
 use Rattle.rules.proofs.Trees.{first_in, second_in}
 use Rattle.rules_tree.proofs.Runs.{low, down_to, leaf_first}
@@ -56,8 +56,8 @@ R-put-node t = (base-reads.Asked, base-reads.Learnt, put-head-below t, put-head.
 abbrev Sh : ℕ → Type 0
 Sh t = put-head-lts.Start (R-put-head t) (put-head-at t) put-head.Post
 
-abbrev P : {t : ℕ} → Sh t → Nodes
-P s = nodes_of s.args.codes.now s.args.fields.now s.args.values.now
+abbrev P : {t : ℕ} → Sh t → Pool
+P s = pool s.args.codes.now s.args.places.now s.args.values.now
 
 put-head-element-copy-out-code : (t : ℕ) → put-head-lts.Need-element-copy-out-code (R-put-head t) (put-head-at t) put-head.Post
 put-head-element-copy-out-code t c = search rules
@@ -117,22 +117,22 @@ put-head-returns-5 : (t : ℕ) → put-head-lts.Need-returns-5 (R-put-head t) (p
 put-head-returns-5 t c = let s : Sh t = c.before.before.before.before.before.before.before.before.before.before.before.before.before.before.before.before.before in head_node (P s) s.args.p c.before.before.before.before.before.before.before.before.before.before.before.before.before.before.put_byte.ensures c.before.before.before.before.before.before.before.before.before.before.before.before.if2.false c.before.before.before.before.before.before.before.before.before.before.before.place.ensures c.before.before.before.before.before.before.before.before.before.put-node.ensures c.before.before.before.before.before.before.before.before.if3.false c.before.before.before.before.before.before.put-byte3.ensures c.before.before.before.before.before.if4.false c.before.before.before.before.place2.ensures c.before.before.put-node2.ensures c.put-byte5.ensures
 
 abbrev put-node-Inv-loop : put-node-lts.invariant-loop
-put-node-Inv-loop codes fields values p out₀ at base q₀ end₀ out q end = (base ≤ q) × (q ≤ p) × PutsHeads (nodes_of codes fields values) p q at out₀ out end
+put-node-Inv-loop codes places values p out₀ at base q₀ end₀ out q end = (base ≤ q) × (q ≤ p) × PutsHeads (pool codes places values) p q at out₀ out end
 
 abbrev put-node-μ-loop : put-node-lts.decreases-loop
-put-node-μ-loop codes fields values p out₀ at base q₀ end₀ out q end = q
+put-node-μ-loop codes places values p out₀ at base q₀ end₀ out q end = q
 
 abbrev put-node-Inv-loop2 : put-node-lts.invariant-loop2
-put-node-Inv-loop2 codes fields values p out₀ at base q₀ end₀ out q end = (base ≤ q) × (q ≤ p) × Grows (nodes_of codes fields values) p q₀ out₀ end₀ q out end
+put-node-Inv-loop2 codes places values p out₀ at base q₀ end₀ out q end = (base ≤ q) × (q ≤ p) × Grows (pool codes places values) p q₀ out₀ end₀ q out end
 
 abbrev put-node-μ-loop2 : put-node-lts.decreases-loop2
-put-node-μ-loop2 codes fields values p out₀ at base q₀ end₀ out q end = p - q
+put-node-μ-loop2 codes places values p out₀ at base q₀ end₀ out q end = p - q
 
 abbrev Sn : ℕ → Type 0
 Sn t = put-node-lts.Start (R-put-node t) (put-node-at t) put-node.Post put-node-Inv-loop put-node-μ-loop put-node-Inv-loop2 put-node-μ-loop2
 
-abbrev Pn : {t : ℕ} → Sn t → Nodes
-Pn s = nodes_of s.args.codes.now s.args.fields.now s.args.values.now
+abbrev Pn : {t : ℕ} → Sn t → Pool
+Pn s = pool s.args.codes.now s.args.places.now s.args.values.now
 
 put-node-base-requires : (t : ℕ) → put-node-lts.Need-base-requires (R-put-node t) (put-node-at t) put-node.Post put-node-Inv-loop put-node-μ-loop put-node-Inv-loop2 put-node-μ-loop2
 put-node-base-requires t c κs = let s : Sn t = c in (omega (arith, s.pre.1.0.inside, s.pre.1.0.few), leaf_first s.pre.1.0)

@@ -1,6 +1,6 @@
 -- `rules_text::put_leaf` meets its contract: the code tells which parts are put.
 use native.Mathlib.Omega.{arith}
-use Rattle.rules.specs.Nodes.{Nodes, nodes_of}
+use Rattle.rules.specs.Pool.{Pool, pool}
 use Rattle.rules.proofs.Operators.{named}
 use Rattle.rules_text.proofs.Nodes.{n_op_lem, rest_op_lem}
 use Rattle.rules_text.proofs.Texts.{put_count, put_integer, put_n, put_rest, put_binary}
@@ -15,8 +15,8 @@ use Rattle.rules_text.proofs.put_number.Reads as put-number-reads
 use Rattle.rules_text.proofs.put_rest.Reads as put-rest-reads
 use Rattle.rules_text.proofs.put_value.Reads as put-value-reads
 
-abbrev P : tie.Start → Nodes
-P s = nodes_of s.args.codes.now s.args.fields.now s.args.values.now
+abbrev P : tie.Start → Pool
+P s = pool s.args.codes.now s.args.places.now s.args.values.now
 
 element-copy-out-code : tie.Need-element-copy-out-code
 element-copy-out-code c = search rules

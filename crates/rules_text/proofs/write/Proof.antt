@@ -4,7 +4,7 @@ use mathlib.Core.Path.{refl, sym, ◌∙◌}
 use native.Mathlib.Omega.{arith}
 use lib.ListN.{length}
 use borrow.Author.Tests.{not-true, not-false}
-use Rattle.rules.specs.Nodes.{Nodes, nodes_of}
+use Rattle.rules.specs.Pool.{Pool, pool}
 use Rattle.rules.proofs.Trees.{sound, told}
 use Rattle.rules_text.proofs.Writings.{no_room, fits, no_tree, a_tree, long, pasted}
 use borrow.Author.Rules.{rules}
@@ -17,8 +17,8 @@ use Rattle.rules_text.proofs.least.Reads as least-reads
 use Rattle.rules_text.proofs.put_node.Reads as put-node-reads
 use Rattle.rules_tree.proofs.is_tree.Reads as is-tree-reads
 
-abbrev P : tie.Start → Nodes
-P s = nodes_of s.args.codes.now s.args.fields.now s.args.values.now
+abbrev P : tie.Start → Pool
+P s = pool s.args.codes.now s.args.places.now s.args.values.now
 
 is-tree-requires : tie.Need-is-tree-requires
 is-tree-requires c κs = search rules

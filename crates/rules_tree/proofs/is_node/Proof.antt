@@ -6,15 +6,15 @@ use Prim.Native.Nat.{◌-◌}
 use lib.ListN.{length, set, length-set}
 use native.Mathlib.Omega.{arith}
 use borrow.Author.Tests.{not-true, not-false}
-use Rattle.rules.specs.Nodes.{Nodes, nodes_of}
+use Rattle.rules.specs.Pool.{Pool, pool}
 use Rattle.rules.proofs.Trees.{some_fields}
 use Rattle.rules_tree.proofs.Marks.{Taken, before_taken, one_more, leaf, first, unknown, refused, one_operand, two_operands, third_decides}
 use borrow.Author.Rules.{rules}
 use Rattle.rules_tree.proofs.is_node.Statement.{statement}
 use Rattle.rules_tree.proofs.is_node.Tie as tie
 
-abbrev P : tie.Start → Nodes
-P s = nodes_of s.args.codes.now s.args.fields.now []
+abbrev P : tie.Start → Pool
+P s = pool s.args.codes.now s.args.places.now []
 
 marked-long : (s : tie.Start) → length (set s.args.marks.now (s.args.p - 1) 1) ≡ length s.args.marks.now
 marked-long s = length-set s.args.marks.now (s.args.p - 1) 1

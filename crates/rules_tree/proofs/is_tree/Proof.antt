@@ -1,14 +1,14 @@
 -- `rules_tree::is_tree` meets its contract: the counts are tested here, the nodes by `passes`, whose marks are cleared.
 use mathlib.Core.List.{[]}
 use native.Mathlib.Omega.{arith}
-use Rattle.rules.specs.Nodes.{Nodes, nodes_of}
+use Rattle.rules.specs.Pool.{Pool, pool}
 use Rattle.rules_tree.proofs.Marks.{too_many, no_root, tested, cleared}
 use borrow.Author.Rules.{rules}
 use Rattle.rules_tree.proofs.is_tree.Statement.{statement}
 use Rattle.rules_tree.proofs.is_tree.Tie as tie
 
-abbrev P : tie.Start → Nodes
-P s = nodes_of s.args.codes.now s.args.fields.now []
+abbrev P : tie.Start → Pool
+P s = pool s.args.codes.now s.args.places.now []
 
 returns : tie.Need-returns
 returns c =

@@ -6,19 +6,19 @@ use mathlib.Core.List.{[]}
 use native.Mathlib.Omega.{arith}
 use lib.ListN.{length}
 use borrow.Author.Rules.{rules}
-use Rattle.rules.specs.Nodes.{Nodes, nodes_of}
+use Rattle.rules.specs.Pool.{Pool, pool}
 use Rattle.rules_tree.proofs.Marks.{Passed, none_passed, one_passed, stopped, passed}
 use Rattle.rules_tree.proofs.passes.Statement.{statement}
 use Rattle.rules_tree.proofs.passes.Tie as tie
 
 abbrev invariant-loop : tie.invariant-loop
-invariant-loop codes fields marks₀ count p₀ marks p = (p ≤ count) × (length marks ≡ length marks₀) × Passed (nodes_of codes fields []) p marks
+invariant-loop codes places marks₀ count p₀ marks p = (p ≤ count) × (length marks ≡ length marks₀) × Passed (pool codes places []) p marks
 
 abbrev decreases-loop : tie.decreases-loop
-decreases-loop codes fields marks₀ count p₀ marks p = count - p
+decreases-loop codes places marks₀ count p₀ marks p = count - p
 
-abbrev P : tie.Start invariant-loop decreases-loop → Nodes
-P s = nodes_of s.args.codes.now s.args.fields.now []
+abbrev P : tie.Start invariant-loop decreases-loop → Pool
+P s = pool s.args.codes.now s.args.places.now []
 
 loop-holds : tie.Need-loop-init invariant-loop decreases-loop
 loop-holds c = let s : tie.Start invariant-loop decreases-loop = c.before in (omega arith, refl, none_passed (P s) s.requires.2)

@@ -3,7 +3,7 @@
 use mathlib.Core.Path.{refl}
 use native.Mathlib.Omega.{arith}
 use borrow.Author.Rules.{rules}
-use Rattle.rules.specs.Nodes.{Nodes, nodes_of}
+use Rattle.rules.specs.Pool.{Pool, pool}
 use Rattle.rules.proofs.Operators.{named}
 use Rattle.rules.proofs.Trees.{before_in, first_in, second_in}
 use Rattle.rules_tree.proofs.Runs.{inside, falls_to, leaf_first}
@@ -53,8 +53,8 @@ R-operand t = (leaf-reads.Asked, leaf-reads.Learnt, eval-below t, eval.Post)
 abbrev St : ℕ → Type 0
 St t = eval-lts.Start (R-eval t) (eval-at t) eval.Post
 
-abbrev P : {t : ℕ} → St t → Nodes
-P s = nodes_of s.args.codes.now s.args.fields.now s.args.values.now
+abbrev P : {t : ℕ} → St t → Pool
+P s = pool s.args.codes.now s.args.places.now s.args.values.now
 
 abbrev So : ℕ → Type 0
 So t = operand-lts.Start (R-operand t) (operand_at t) operand.Post

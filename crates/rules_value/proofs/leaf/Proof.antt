@@ -1,15 +1,15 @@
 -- `rules_value::leaf` meets its contract: each return is the value of the tree that the tests before it leave.
 use mathlib.Core.Path.{refl}
 use native.Mathlib.Omega.{arith}
-use Rattle.rules.specs.Nodes.{Nodes, nodes_of}
+use Rattle.rules.specs.Pool.{Pool, pool}
 use Rattle.rules.proofs.Operators.{named}
 use Rattle.rules_value.proofs.Values.{at_count, at_int, at_op, at_rest}
 use borrow.Author.Rules.{rules}
 use Rattle.rules_value.proofs.leaf.Statement.{statement}
 use Rattle.rules_value.proofs.leaf.Tie as tie
 
-abbrev P : tie.Start → Nodes
-P s = nodes_of s.args.codes.now s.args.fields.now s.args.values.now
+abbrev P : tie.Start → Pool
+P s = pool s.args.codes.now s.args.places.now s.args.values.now
 
 element-copy-out-code : tie.Need-element-copy-out-code
 element-copy-out-code c = search rules

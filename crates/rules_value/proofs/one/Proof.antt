@@ -2,7 +2,7 @@
 use Prim.Native.Nat.{◌<◌, ◌≤◌, ◌-◌}
 use mathlib.Core.Path.{refl}
 use native.Mathlib.Omega.{arith}
-use Rattle.rules.specs.Nodes.{Nodes, nodes_of, code, not_node, pair_op}
+use Rattle.rules.specs.Pool.{Pool, pool, code, nay_node, pair_op}
 use Rattle.rules.proofs.Operators.{named}
 use Rattle.rules.proofs.Trees.{before_in}
 use Rattle.rules_tree.proofs.Runs.{low, high}
@@ -11,10 +11,10 @@ use borrow.Author.Rules.{rules}
 use Rattle.rules_value.proofs.one.Statement.{statement}
 use Rattle.rules_value.proofs.one.Tie as tie
 
-abbrev P : tie.Start → Nodes
-P s = nodes_of s.args.codes.now s.args.fields.now s.args.values.now
+abbrev P : tie.Start → Pool
+P s = pool s.args.codes.now s.args.places.now s.args.values.now
 
-from : (s : tie.Start) → not_node ≤ code (P s) s.args.at
+from : (s : tie.Start) → nay_node ≤ code (P s) s.args.at
 from s = low _ pair_op s.requires.1
 
 to : (s : tie.Start) → code (P s) s.args.at < pair_op

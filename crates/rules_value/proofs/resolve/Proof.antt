@@ -1,15 +1,15 @@
 -- `rules_value::resolve` meets its contract: the tree test comes first, and a walk from the root brings the value.
 use mathlib.Core.Path.{sym}
 use borrow.Author.Tests.{not-true, not-false}
-use Rattle.rules.specs.Nodes.{Nodes, nodes_of}
+use Rattle.rules.specs.Pool.{Pool, pool}
 use Rattle.rules.proofs.Trees.{sound, told}
 use Rattle.rules.proofs.Answers.{resolved_none, resolves}
 use borrow.Author.Rules.{rules}
 use Rattle.rules_value.proofs.resolve.Statement.{statement}
 use Rattle.rules_value.proofs.resolve.Tie as tie
 
-abbrev P : tie.Start → Nodes
-P s = nodes_of s.args.codes.now s.args.fields.now s.args.values.now
+abbrev P : tie.Start → Pool
+P s = pool s.args.codes.now s.args.places.now s.args.values.now
 
 is-tree-requires : tie.Need-is-tree-requires
 is-tree-requires c κs = search rules

@@ -3,7 +3,7 @@ use Prim.Native.Nat.{◌-◌, ◌≤◌}
 use mathlib.Core.Path.{◌≡◌}
 use native.Mathlib.Omega.{arith}
 use borrow.Author.Rules.{rules}
-use Rattle.rules.specs.Nodes.{nodes_of}
+use Rattle.rules.specs.Pool.{pool}
 use Rattle.rules_tree.proofs.Runs.{down_to}
 use Rattle.rules_value.specs.Private.{Lifts}
 use Rattle.rules_value.proofs.Values.{lift_more}
@@ -11,10 +11,10 @@ use Rattle.rules_value.proofs.up.Statement.{statement}
 use Rattle.rules_value.proofs.up.Tie as tie
 
 abbrev invariant-loop : tie.invariant-loop
-invariant-loop codes fields values base at x zero₀ p₀ y₀ zero p y = (base ≤ p) × (p ≤ at) × Lifts (nodes_of codes fields values) base p x zero₀ zero y
+invariant-loop codes places values base at x zero₀ p₀ y₀ zero p y = (base ≤ p) × (p ≤ at) × Lifts (pool codes places values) base p x zero₀ zero y
 
 abbrev decreases-loop : tie.decreases-loop
-decreases-loop codes fields values base at x zero₀ p₀ y₀ zero p y = at - p
+decreases-loop codes places values base at x zero₀ p₀ y₀ zero p y = at - p
 
 loop-holds : tie.Need-loop-init invariant-loop decreases-loop
 loop-holds c = (omega arith, c.requires.1.below, record { gives = λ n b g. g })

@@ -1,15 +1,15 @@
 -- `rules_zero::step` meets its contract: each return is a step by the tests that led there. Assumes nothing.
 use mathlib.Core.Path.{refl}
 use native.Mathlib.Omega.{arith}
-use Rattle.rules.specs.Nodes.{Nodes, nodes_of}
+use Rattle.rules.specs.Pool.{Pool, pool}
 use Rattle.rules.proofs.Trees.{before_in, first_in, second_in, down}
 use Rattle.rules_zero.proofs.Steps.{inside, step_leaf, step_one, step_first, step_settled, step_both, step_no, step_chosen, step_yes}
 use borrow.Author.Rules.{rules}
 use Rattle.rules_zero.proofs.step.Statement.{statement}
 use Rattle.rules_zero.proofs.step.Tie as tie
 
-abbrev P : tie.Start → Nodes
-P s = nodes_of s.args.codes.now s.args.fields.now s.args.values.now
+abbrev P : tie.Start → Pool
+P s = pool s.args.codes.now s.args.places.now s.args.values.now
 
 element-copy-out-code : tie.Need-element-copy-out-code
 element-copy-out-code c = search rules

@@ -1,14 +1,14 @@
 -- The value decides; where it is a zero divisor the nodes are a tree, and the node is sought. Assumes nothing.
 use mathlib.Core.Path.{ap, ◌∙◌}
-use Rattle.rules.specs.Nodes.{Nodes, nodes_of}
+use Rattle.rules.specs.Pool.{Pool, pool}
 use Rattle.rules_zero.specs.declared.Traced.TheVariants.{ZeroDivisor}
 use Rattle.rules_zero.proofs.Steps.{traces, zero_sound}
 use borrow.Author.Rules.{rules}
 use Rattle.rules_zero.proofs.trace.Statement.{statement}
 use Rattle.rules_zero.proofs.trace.Tie as tie
 
-abbrev P : tie.Start → Nodes
-P s = nodes_of s.args.codes.now s.args.fields.now s.args.values.now
+abbrev P : tie.Start → Pool
+P s = pool s.args.codes.now s.args.places.now s.args.values.now
 
 resolve-requires : tie.Need-resolve-requires
 resolve-requires c κs = search rules

@@ -11,10 +11,10 @@ use Rattle.test_replay.proofs.count_at.Reads as count-at-reads
 use Rattle.test_replay.proofs.told_form.Reads as told-form-reads
 
 abbrev invariant-loop : tie.invariant-loop
-invariant-loop told codes fields values nodes i₀ i = Unit {0}
+invariant-loop told codes places values nodes i₀ i = Unit {0}
 
 abbrev decreases-loop : tie.decreases-loop
-decreases-loop told codes fields values nodes i₀ i = 16 - i
+decreases-loop told codes places values nodes i₀ i = 16 - i
 
 returns : tie.Need-returns invariant-loop decreases-loop
 returns c = search rules

@@ -3,7 +3,7 @@ use Prim.Native.Nat.{ℕ, ◌-◌, ◌≤◌}
 use mathlib.Core.Path.{refl}
 use native.Mathlib.Omega.{arith}
 use borrow.Author.Rules.{rules}
-use Rattle.rules.specs.Nodes.{Nodes, nodes_of}
+use Rattle.rules.specs.Pool.{Pool, pool}
 use Rattle.reading_standard.specs.Private.{Climbs}
 use Rattle.reading_standard.proofs.Taken.{answered, gave}
 use Rattle.reading_standard.proofs.Levels.{by_prefix, by_bad_below, by_more, climbed, at_level}
@@ -17,17 +17,17 @@ abbrev pub Claimed : ℕ → lts.Claims
 Claimed t = (read-prefix-below t, read-prefix.Post, read-more-below t, read_more.Post)
 
 abbrev pub Inv : lts.invariant-loop
-Inv s codes₀ places₀ values₀ l at k u p m₀ q₀ j₀ codes fields values m q j =
-    (j ≤ l) × Climbs s at k (nodes_of codes₀ places₀ values₀) m₀ q₀ j (nodes_of codes fields values) m q
+Inv s codes₀ places₀ values₀ l at k u p m₀ q₀ j₀ codes places values m q j =
+    (j ≤ l) × Climbs s at k (pool codes₀ places₀ values₀) m₀ q₀ j (pool codes places values) m q
 
 abbrev pub μ : lts.decreases-loop
-μ s codes₀ places₀ values₀ l at k u p m₀ q₀ j₀ codes fields values m q j = l - j
+μ s codes₀ places₀ values₀ l at k u p m₀ q₀ j₀ codes places values m q j = l - j
 
 abbrev St : ℕ → Type 0
 St t = lts.Start (Claimed t) (read-level-at t) read-level.Post Inv μ
 
-abbrev P : {t : ℕ} → St t → Nodes
-P s = nodes_of s.args.codes.now s.args.fields.now s.args.values.now
+abbrev P : {t : ℕ} → St t → Pool
+P s = pool s.args.codes.now s.args.places.now s.args.values.now
 
 pub read-prefix-requires : (t : ℕ) → lts.Need-read-prefix-requires (Claimed t) (read-level-at t) read-level.Post Inv μ
 read-prefix-requires t c κs = search rules

@@ -1,0 +1,4 @@
+pub mod Heads
+pub mod Answers
+pub mod Explains
+pub mod Unique
