@@ -42,7 +42,7 @@ use Rattle.container_rule.specs.Rule.{forced_rule, label_ok, headed, rule_at, se
 use Rattle.container_rule.specs.declared.First.{First}
 use Rattle.container_rule.specs.declared.First.TheVariants as first
 use Rattle.container.specs.Catalog.{and_then, header, entry_step, entries_from, Answer, accepted, refused, answered, catalog, load_with, opened, fits, fitted, load}
-use Rattle.container.specs.Accepts.{Headed, IsHeader, Fine, Counts, forced, given, absent, headless, SomeFine, Carries, in_header_lem, no_header, Sound, Fits, Accepts, Fails, by_forced, by_head, by_entry_lem, by_fit}
+use Rattle.container.specs.Accepts.{Headed, IsHeader, Fine, Counts, forced, given, absent, headless, SomeFine, Carries, by_header, no_header, Sound, Fits, Accepts, Fails, by_forced, by_head, by_entry, by_fit}
 use Rattle.container.specs.Private.{rest_from}
 use Rattle.container.specs.declared.Options.{Options}
 use Rattle.container.proofs.Accepted.{Whole, accepted_whole, opened_passed, accepted_fitted}
@@ -120,12 +120,12 @@ module _ (s : List ℕ) (t : Tables) where
 
   same_id : {i : ℕ} (g k : Good s t i) → id (original s g.at g.len) ≡ id (original s k.at k.len)
   same_id g k =
-      let e = same_at (sym g.original_in_lem ∙ k.original_in_lem) in
+      let e = same_at (sym g.original_lies ∙ k.original_lies) in
       ap₂ (λ (a l : ℕ). id (original s a l)) e.0 e.1
 
   same_header : {h k : List ℕ} → IsHeader s t h → IsHeader s t k → h ≡ k
   same_header a b =
-      let e = same_at (sym a.good.translation_in_lem ∙ b.good.translation_in_lem) in
+      let e = same_at (sym a.good.translation_lies ∙ b.good.translation_lies) in
       a.is ∙ ap₂ (λ (x y : ℕ). segment0 (segments s x y)) e.0 e.1 ∙ sym b.is
 
   header_read : {h : List ℕ} (w : IsHeader s t h) → read_at s t 0 ≡ read.Header w.good.start w.good.size
@@ -259,7 +259,7 @@ module _ (o : Options) (f s : List ℕ) (t : Tables) (r : Tree) (n : Forms) wher
         by_count (suc k) c =
             let l : 0 < t.count = omega arith in
             good_either s t 0 (good 0 l)
-            (λ z. let w = is_header l z in let g = (handed w).fine in in_header_lem w (g.fields ∙ ap (Fields g.label (handed w).lies) (sym (header_forms s t w g.fields) ∙ whole.forms_are)))
+            (λ z. let w = is_header l z in let g = (handed w).fine in by_header w (g.fields ∙ ap (Fields g.label (handed w).lies) (sym (header_forms s t w g.fields) ∙ whole.forms_are)))
             (λ m. no_header (λ h w. m (same_id s t (good 0 l) w.good ∙ w.empty)) (sym whole.forms_are ∙ message_forms s t l (good 0 l) m))
 
     pub opened_facts : Sound o f s t r n
@@ -340,7 +340,7 @@ module _ (o : Options) (f s : List ℕ) (t : Tables) (r : Tree) (n : Forms) wher
 
     -- the count is the header's, or there is none
     its_forms : Carries s t n → file_forms s t ≡ n
-    its_forms (in_header_lem x g) = header_forms s t x g
+    its_forms (by_header x g) = header_forms s t x g
     its_forms (no_header x e) = by_count t.count refl
       where
         by_count : (k : ℕ) → t.count ≡ k → file_forms s t ≡ n
@@ -454,7 +454,7 @@ module _ (o : Options) (f s : List ℕ) (e : Refusal) where
   by_entries {w} p {t} h (norule x) g q =
       let y = stops o s t e t.count 0 w (g ∙ ap norule (same_refusal q)) in
       let z : 0 + y.passed ≡ y.passed = omega arith in
-      by_entry_lem p h y.below y.before (ap (λ (k : ℕ). entry_step o s y.rule_so_far (read_at s t k)) (sym z) ∙ y.here)
+      by_entry p h y.below y.before (ap (λ (k : ℕ). entry_step o s y.rule_so_far (read_at s t k)) (sym z) ∙ y.here)
 
   by_heads : {w : Tree} → forced_rule o.forced o.reading f ≡ rule w → (h : Head) → head_of s ≡ h → catalog o s w h ≡ refused e → Fails o f s e
   by_heads {w} p (head.Fields t) h q = by_entries p h (entries_from o s t t.count 0 w) refl q
@@ -497,7 +497,7 @@ module _ (o : Options) (f s : List ℕ) (e : Refusal) where
   unfolding opened
   fails_refused (by_forced p) = refused_so (ap (load_with o s) p)
   fails_refused (by_head {w} p h q) = refused_so (ap (load_with o s) p ∙ ap (catalog o s w) h ∙ ap refused (sym q))
-  fails_refused (by_entry_lem {w} {u} {t} {i} p h l x y) =
+  fails_refused (by_entry {w} {u} {t} {i} p h l x y) =
       let z : t.count ≡ i + suc (t.count - suc i) = omega arith in
       let k : 0 + i ≡ i = omega arith in
       refused_so

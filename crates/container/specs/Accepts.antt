@@ -62,7 +62,7 @@ pub record SomeFine (o : Options) (h : List ℕ) : Type 0 where
 
 -- the count of forms is the header's, whatever rule counts; without a header there is none
 pub data Carries (s : List ℕ) (t : Tables) (n : Forms) : Type 0 where
-  in_header_lem : {h : List ℕ} {label p : Stretch} → IsHeader s t h → metadata h ≡ Fields label p n → Carries s t n
+  by_header : {h : List ℕ} {label p : Stretch} → IsHeader s t h → metadata h ≡ Fields label p n → Carries s t n
   no_header : ((h : List ℕ) → IsHeader s t h → ⊥) → n ≡ Absent → Carries s t n
 
 -- every test but the last
@@ -91,6 +91,6 @@ pub record Accepts (o : Options) (f s : List ℕ) (t : Tables) (r : Tree) (n : F
 pub data Fails (o : Options) (f s : List ℕ) (e : Refusal) : Type 0 where
   by_forced : forced_rule o.forced o.reading f ≡ norule e → Fails o f s e
   by_head : {w : Tree} {x : Error} → forced_rule o.forced o.reading f ≡ rule w → head_of s ≡ head.Refused x → e ≡ at place_of.File x → Fails o f s e
-  by_entry_lem : {w u : Tree} {t : Tables} {i : ℕ} → forced_rule o.forced o.reading f ≡ rule w → head_of s ≡ head.Fields t → i < t.count
+  by_entry : {w u : Tree} {t : Tables} {i : ℕ} → forced_rule o.forced o.reading f ≡ rule w → head_of s ≡ head.Fields t → i < t.count
       → entries_from o s t i 0 w ≡ rule u → entry_step o s u (read_at s t i) ≡ norule e → Fails o f s e
   by_fit : {t : Tables} {r : Tree} {n : Forms} → Sound o f s t r n → o.fit ≡ true → (Fits r n → ⊥) → e ≡ at place_of.File NotFit → Fails o f s e

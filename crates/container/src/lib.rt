@@ -1,5 +1,7 @@
 // Loading a catalog where it lies: a record, or the refusal. A port of parser.rs: `parse_catalog`. Stages answer enums; the map of messages
 // is the file itself, and the resolver is the rule's nodes, which go into arrays that the caller lends, so that they are written once.
+#![tactic(auto)]
+
 ghost use Rattle.std.specs.Prelude.{◌≡◌, ◌-◌, ◌<◌};
 ghost use Rattle.rules.specs.Pool.{pool};
 ghost use Rattle.container.specs.Catalog.{no_tables, opened, load};
@@ -15,7 +17,7 @@ use refusal::{Error, Outcome, Where};
 use rules::Fit;
 
 // Whether a forced rule is given, by which reading rules are read, whether UTF-8 is forced, and whether the rule has to fit the header's count.
-#[derive(Drop)]
+#[derive(Clone, Copy)]
 pub struct Options {
     pub forced: bool,
     pub reading: Reading,

@@ -1,4 +1,6 @@
 // What loading a file would cost, told from its tables alone, so that a host need not begin a load that it will not pay for.
+#![tactic(auto)]
+
 ghost use Rattle.std.specs.Prelude.{◌≡◌, ◌+◌};
 ghost use Rattle.container_cost.specs.Cost.{lengths, capped, cost};
 ghost use Rattle.container_cost.specs.Private.{Cells};

@@ -1,5 +1,7 @@
 // The head of a catalog's file: the byte order, how many entries there are, and where the two tables lie. From parser.rs:
 // `get_read_u32_fn`, and what `parse_catalog` reads before its loop.
+#![tactic(auto)]
+
 ghost use Rattle.std.specs.Prelude.{◌≡◌, ◌≤◌, length};
 ghost use Rattle.container_head.specs.Head.{order_of, tables_of, head_of};
 
@@ -10,14 +12,14 @@ use refusal::Error;
 const MAGIC: u32 = 0x950412de;
 
 // The byte order, by the magic.
-#[derive(Drop)]
+#[derive(Clone, Copy)]
 pub enum Order {
     Big(bool),
     Unknown,
 }
 
 // Byte order, count and tables.
-#[derive(Drop)]
+#[derive(Clone, Copy)]
 pub enum Head {
     Fields(Tables),
     Refused(Error),

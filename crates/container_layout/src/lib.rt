@@ -1,5 +1,7 @@
 // The layout of an MO file: its words, its cells and strings, and the key, the translation and the segments of an entry, as places in it.
 // From parser.rs: the readers of a word, and what `parse_catalog` reads of an entry. Nothing is copied.
+#![tactic(auto)]
+
 ghost use Rattle.std.specs.Prelude.{◌≡◌, ◌+◌, ◌<◌, ◌≤◌, length};
 ghost use Rattle.text.specs.Bytes.{front, place};
 ghost use Rattle.text.specs.Cut.{cut};
@@ -11,7 +13,7 @@ use text::Stretch;
 
 // The record of a catalog without its rule: the file's length and byte order, how many entries it has, and where the tables of originals and
 // translations start.
-#[derive(Drop)]
+#[derive(Clone, Copy)]
 pub struct Tables {
     pub length: usize,
     pub big: bool,
@@ -21,7 +23,7 @@ pub struct Tables {
 }
 
 // Where an entry's key lies, and its translation.
-#[derive(Drop)]
+#[derive(Clone, Copy)]
 pub enum Entry {
     At(usize, usize, usize, usize),
     NoEntry,
@@ -82,7 +84,7 @@ pub fn string_at(file: &[u8], big: bool, table: u32, i: usize) -> Stretch
 
 // An original, with the byte after it: where its context ends (0 without one), where its id starts, and the NUL that ends the id, or
 // without one the length.
-#[derive(Drop)]
+#[derive(Clone, Copy)]
 pub struct Parts {
     pub context: usize,
     pub id: usize,

@@ -92,14 +92,14 @@ module _ (s : List ℕ) (t : Tables) (i : ℕ) where
       record {
         at = a;
         len = l;
-        original_in_lem = e;
+        original_lies = e;
         context_right = p.first;
         id_ends = p.second;
         id_right = p.third;
         named = kept_named i (id (original s a l)) p.last;
         start = b;
         size = m;
-        translation_in_lem = f;
+        translation_lies = f;
         segments_right =
             by_test (every utf8 (segments s b m) ≡ true) (every utf8 (segments s b m)) (λ g. g)
             (λ g. absurd (kept_translation i s (stretch.At b m) (original_of i (original s a l)) n DecodingError (left (translation.At b m) (translation.Refused DecodingError) g)));
@@ -115,11 +115,11 @@ module _ (s : List ℕ) (t : Tables) (i : ℕ) where
     by_id = is_ladder i (original s g.at g.len) ∙ through g.context_right g.id_ends g.id_right
 
     right_translation : translation_in s (string t.big s t.translations i) ≡ translation.At g.start g.size
-    right_translation = ap (translation_in s) g.translation_in_lem ∙ taken (translation.At g.start g.size) (translation.Refused DecodingError) g.segments_right
+    right_translation = ap (translation_in s) g.translation_lies ∙ taken (translation.At g.start g.size) (translation.Refused DecodingError) g.segments_right
 
     as_read : {q : Original} → identified i (id (original s g.at g.len)) ≡ q → read_at s t i ≡ joined i q (translation.At g.start g.size)
     unfolding read_at
-    as_read e = ap₂ (joined i) (ap (original_in s i) g.original_in_lem ∙ by_id ∙ e) right_translation
+    as_read e = ap₂ (joined i) (ap (original_in s i) g.original_lies ∙ by_id ∙ e) right_translation
 
     pub good_header : id (original s g.at g.len) ≡ [] → read_at s t i ≡ read.Header g.start g.size
     good_header e = as_read (ap (identified i) e ∙ at_zero i (g.named e))

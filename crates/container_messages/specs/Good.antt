@@ -11,12 +11,12 @@ use Rattle.text.specs.declared.Stretch.TheVariants as stretch
 pub record Good (s : List ℕ) (t : Tables) (i : ℕ) : Type 0 where
   pub at : ℕ
   pub len : ℕ
-  pub original_in_lem : string t.big s t.originals i ≡ stretch.At at len
+  pub original_lies : string t.big s t.originals i ≡ stretch.At at len
   pub context_right : utf8 (context (original s at len)) ≡ true
   pub id_ends : ended (original s at len) ≡ true
   pub id_right : utf8 (id (original s at len)) ≡ true
   pub named : id (original s at len) ≡ [] → i ≡ 0
   pub start : ℕ
   pub size : ℕ
-  pub translation_in_lem : string t.big s t.translations i ≡ stretch.At start size
+  pub translation_lies : string t.big s t.translations i ≡ stretch.At start size
   pub segments_right : every utf8 (segments s start size) ≡ true

@@ -1,5 +1,7 @@
 // The entries of a catalog's file, each tested as it is read. From parser.rs: the loop's body in `parse_catalog`. Stages answer enums; a
 // message is not kept, since it lies in the file.
+#![tactic(auto)]
+
 ghost use Rattle.std.specs.Prelude.{◌≡◌, ◌+◌, ◌-◌, ◌≤◌, length, take, drop};
 ghost use Rattle.text_utf8.specs.Utf8.{utf8};
 ghost use Rattle.container_layout.specs.Mo.{string};
@@ -10,7 +12,7 @@ use refusal::{Error, Refusal, Side, Where};
 use text::Stretch;
 
 // An original with an id, or with an empty one.
-#[derive(Drop)]
+#[derive(Clone, Copy)]
 enum Original {
     Named,
     Empty,
@@ -18,14 +20,14 @@ enum Original {
 }
 
 // Where a translation lies.
-#[derive(Drop)]
+#[derive(Clone, Copy)]
 enum Translation {
     At(usize, usize),
     Refused(Error),
 }
 
 // An entry: a message, or the header by its translation's place.
-#[derive(Drop)]
+#[derive(Clone, Copy)]
 pub enum Read {
     Message,
     Header(usize, usize),

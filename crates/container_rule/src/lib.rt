@@ -1,6 +1,8 @@
 // Which rule a load goes on with: the forced one, the header's, or the default; and the header's count of forms. The header is entry 0's, where its
 // id is empty. From parser.rs:
 // the part of `parse_catalog` for an empty id, and where it sets the resolver. The nodes of the rule go into arrays that the caller lends.
+#![tactic(auto)]
+
 ghost use Rattle.std.specs.Prelude.{◌≡◌, ◌||◌, ◌+◌, ◌^◌, ◌<◌, ◌≤◌, length};
 ghost use Rattle.rules.specs.Pool.{pool};
 ghost use Rattle.refusal.specs.Places.{at, in_header};
@@ -18,7 +20,7 @@ use refusal::{Error, Outcome, Refusal, Side, Where};
 use text::Stretch;
 
 // Where the header's rule lies that is to be read, if any, and the count of forms; or why the load ends.
-#[derive(Drop)]
+#[derive(Clone, Copy)]
 pub enum First {
     Rule(Stretch, Forms),
     Refused(Refusal),

@@ -1,5 +1,7 @@
 // Prints which forms a plural rule names over a span of counts, and how often. On standard input: the rule, in the Standard reading, the first
 // count and the last, each on a line of its own.
+#![tactic(auto)]
+
 ghost use Rattle.std.specs.Prelude.{◌≤◌, length};
 
 use reading_rule::Reading;

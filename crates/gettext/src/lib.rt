@@ -1,5 +1,7 @@
 // The four lookups in a catalog: the file, lent, and the record that loading returned. A port of lib.rs. Each is two functions: one
 // says by value why, and so which text answers; the other hands back that text, a part of the file or of the caller's own.
+#![tactic(auto)]
+
 ghost use Rattle.std.specs.Prelude.{◌≡◌, true};
 ghost use Rattle.rules.specs.Answer.{rated_of, fit_of};
 ghost use Rattle.lookup_scan.specs.Keys.{key_of};

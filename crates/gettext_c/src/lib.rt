@@ -1,6 +1,8 @@
 // The port for a host in C or Rust, as a static library: the file is lent, numbers come back, and the host takes the text that they
 // name from its own memory. A record is what the host keeps of a load: its head, seven numbers, and the three arrays of its rule's nodes,
 // which a load writes and every other function only reads.
+#![tactic(auto)]
+
 ghost use Rattle.std.specs.Prelude.{◌≡◌};
 ghost use Rattle.text_utf8.specs.Utf8.{utf8};
 ghost use Rattle.rules.specs.Pool.{pool};

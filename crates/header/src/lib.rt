@@ -1,5 +1,7 @@
 // The metadata of a catalog, its header: where the charset label and the plural rule lie in it, and its count of forms.
 // A port of metadata.rs: `parse_metadata`, `charset`, `plural_forms`. The map of fields is the places of the two values wanted.
+#![tactic(auto)]
+
 ghost use Rattle.std.specs.Prelude.{◌≡◌, ◌≤◌, length};
 ghost use Rattle.header_fields.specs.Promise.{end_of};
 ghost use Rattle.header.specs.Header.{within, charset, plural, metadata, utf8_label};
@@ -10,7 +12,7 @@ use text::{Found, Stretch};
 use text_trim::Set;
 
 // The charset label, the plural rule and the count of forms, or a line that is no field.
-#[derive(Drop)]
+#[derive(Clone, Copy)]
 pub enum Metadata {
     Malformed,
     Fields(Stretch, Stretch, Forms),
@@ -40,7 +42,7 @@ fn plural_in(v: &[u8]) -> Stretch
 }
 
 // What is sought in a field's value.
-#[derive(Drop)]
+#[derive(Clone, Copy)]
 enum Sought {
     Charset,
     Plural,

@@ -1,5 +1,7 @@
 // The fields of a header, and of its Plural-Forms: whether each line is one, and where the last value of a name lies.
 // From metadata.rs: the pieces that `parse_metadata` and `plural_forms` go through, one by one.
+#![tactic(auto)]
+
 ghost use Rattle.std.specs.Prelude.{◌≡◌, ◌+◌, ◌^◌, ◌<◌};
 ghost use Rattle.text_trim.specs.Trim.{chars_of, white_space};
 ghost use Rattle.text.specs.Cut.{cut, every};

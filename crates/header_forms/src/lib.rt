@@ -1,5 +1,7 @@
 // The count of forms that a Plural-Forms gives. From metadata.rs: the part of `plural_forms` for a count, with the name that real files have,
 // and a value that is no number passed over.
+#![tactic(auto)]
+
 ghost use Rattle.std.specs.Prelude.{◌≡◌, ◌≤◌, length};
 ghost use Rattle.header_fields.specs.Promise.{end_of};
 ghost use Rattle.header_forms.specs.Forms.{is_count_name, counted, or_else, count_in, form_count, forms_at};
@@ -9,7 +11,7 @@ use text_digits::Number;
 use text_trim::Set;
 
 // A count of forms, or none.
-#[derive(Drop)]
+#[derive(Clone, Copy)]
 pub enum Forms {
     Given(u64),
     Absent,

@@ -1,5 +1,7 @@
 // What a host in C or Rust says and is told: numbers, in records with the layout of C. A flag is a number, any but 0 being yes, so that no
 // record and no call that a host can make is senseless.
+#![tactic(auto)]
+
 ghost use Rattle.std.specs.Prelude.{◌≡◌, ◌<◌, ◌%◌};
 ghost use Rattle.rules.specs.Value.{truth};
 ghost use Rattle.host.specs.Explained.{left_own, explained_of};
@@ -34,7 +36,7 @@ pub struct Loaded {
 
 // The text that answers: 0 is the segment of the file at start, 1 the caller's id, 2 the caller's plural id.
 #[repr(C)]
-#[derive(Drop)]
+#[derive(Clone, Copy)]
 pub struct Answer {
     pub number: u32,
     pub which: u32,
@@ -46,7 +48,7 @@ pub struct Answer {
 
 // The lowest and the highest form, where the rule is rated.
 #[repr(C)]
-#[derive(Drop)]
+#[derive(Clone, Copy)]
 pub struct Rating {
     pub number: u32,
     pub rated: u32,
@@ -56,7 +58,7 @@ pub struct Rating {
 
 // Whether a rule fits.
 #[repr(C)]
-#[derive(Drop)]
+#[derive(Clone, Copy)]
 pub struct Fits {
     pub number: u32,
     pub fits: u32,
@@ -64,7 +66,7 @@ pub struct Fits {
 
 // How long the text is that was written, beside number 0.
 #[repr(C)]
-#[derive(Drop)]
+#[derive(Clone, Copy)]
 pub struct Written {
     pub number: u32,
     pub len: usize,
@@ -72,7 +74,7 @@ pub struct Written {
 
 // The form that a rule names for a count.
 #[repr(C)]
-#[derive(Drop)]
+#[derive(Clone, Copy)]
 pub struct Form {
     pub number: u32,
     pub form: u64,
@@ -309,7 +311,7 @@ pub fn written_of(writing: Writing) -> Written
 // Why a lookup with a count answers as it does, and its answer: the kind, which is the reason's place in `lookup_why::Why`, from 1 on; the
 // number, and which text, as in `Answer`; then what the reason tells, 0 where it does not.
 #[repr(C)]
-#[derive(Drop)]
+#[derive(Clone, Copy)]
 pub struct Explained {
     pub kind: u32,
     pub number: u32,

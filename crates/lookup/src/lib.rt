@@ -1,5 +1,7 @@
 // Lookups: why a lookup answers as it does, and which text answers. From lib.rs: `gettext`, `ngettext`, `pgettext` and `npgettext`; nothing
 // is copied. What follows from the entry with the key is said once, however that entry is found.
+#![tactic(auto)]
+
 ghost use Rattle.std.specs.Prelude.{◌≡◌};
 ghost use Rattle.rules.specs.Pool.{pool};
 ghost use Rattle.rules.specs.Answer.{resolved_of};
@@ -18,7 +20,7 @@ use text::Stretch;
 // Why a lookup answers as it does, the first of these that holds: the file's length is not the record's; the rule's nodes are no tree; fewer
 // slots are lent than the index uses, where one is; the rule takes a remainder by zero; no entry has the key; the entry stores no segment of
 // that form; the entry, the form, and the segment's start and length.
-#[derive(Drop)]
+#[derive(Clone, Copy)]
 pub enum Reason {
     StaleLength,
     NoTree,
@@ -30,7 +32,7 @@ pub enum Reason {
 }
 
 // The text that answers: a segment of the file, its start and its length, or the caller's id or plural id.
-#[derive(Drop)]
+#[derive(Clone, Copy)]
 pub enum Text {
     Segment(usize, usize),
     Id,

@@ -1,5 +1,7 @@
 // The index of a catalog in slots that the caller lends: built from its entries, and searched for a key. Not in the Rust, whose HashMap does
 // both. A slot holds an entry's index plus 1, or 0.
+#![tactic(auto)]
+
 ghost use Rattle.std.specs.Prelude.{◌≡◌, ◌+◌, ◌%◌, ◌<◌, length};
 ghost use Rattle.container_layout.specs.Mo.{entry};
 ghost use Rattle.lookup_scan.specs.Keys.{key_of};
@@ -16,14 +18,14 @@ use refusal::Error;
 use text::Stretch;
 
 // What a lookup in lent slots finds: the entry with the key, or that too few slots are lent.
-#[derive(Drop)]
+#[derive(Clone, Copy)]
 pub enum Sought {
     Found(Hit),
     TooFew,
 }
 
 // How building went: the slots are set; the file's length is not the record's; too few slots are lent.
-#[derive(Drop)]
+#[derive(Clone, Copy)]
 pub enum Building {
     Built,
     StaleLength,
@@ -31,7 +33,7 @@ pub enum Building {
 }
 
 // Where the search for a key stops: the slot, or without one how many there are; and the entry that the slot names.
-#[derive(Drop)]
+#[derive(Clone, Copy)]
 struct Stop {
     place: usize,
     hit: Hit,
@@ -167,7 +169,7 @@ pub fn find(file: &[u8], t: Tables, slots: &[u32], given: bool, context: &[u8], 
 }
 
 // Where the key of an entry lies, how long it is, and its hash.
-#[derive(Drop)]
+#[derive(Clone, Copy)]
 enum Key {
     At(usize, usize, usize),
     NoKey,

@@ -1,5 +1,7 @@
 // The search for a key: the last entry that has it. From lib.rs: `key_with_context`, and `strings.get` of the lookups; a key is compared
 // where it lies, and nothing is built or copied.
+#![tactic(auto)]
+
 ghost use Rattle.std.specs.Prelude.{◌≡◌, true, ◌+◌, ◌<◌, ◌≤◌, length};
 ghost use Rattle.lookup_scan.specs.Keys.{key_of, last_with};
 ghost use Rattle.lookup_scan.specs.Promise.{Sized, hit_if};
@@ -9,14 +11,14 @@ use container_layout::{Tables, wide};
 use text::Stretch;
 
 // The entry with a key, and where its translation lies.
-#[derive(Drop)]
+#[derive(Clone, Copy)]
 pub enum Hit {
     At(usize, usize, usize),
     Missing,
 }
 
 // The length of a key, unless it is as long as the file.
-#[derive(Drop)]
+#[derive(Clone, Copy)]
 pub enum Size {
     Is(usize),
     TooLong,

@@ -1,4 +1,6 @@
 // The slots of an index beside a catalog: the hash of a key, and how many slots an index uses. Not in the Rust, whose HashMap does both.
+#![tactic(auto)]
+
 ghost use Rattle.std.specs.Prelude.{◌≡◌, ◌+◌, ◌%◌, ◌^◌, ◌<◌, ◌≤◌, length};
 ghost use Rattle.text.specs.Bytes.{within, all};
 ghost use Rattle.lookup_slots.specs.Used.{used};
@@ -6,14 +8,14 @@ ghost use Rattle.lookup_slots.specs.Promise.{Hashes, room_in};
 ghost use Rattle.lookup_slots.specs.Private.{word_at, Masks, Polys, Lesser, Lowers, IsPlain};
 
 // The slots that an index uses, or that fewer are lent.
-#[derive(Drop)]
+#[derive(Clone, Copy)]
 pub enum Room {
     Uses(usize),
     TooFew,
 }
 
 // The hash of a text, and whether the text has no byte below 5. The one who does not ask for the second does not pay for it: the compiler leaves it out.
-#[derive(Drop)]
+#[derive(Clone, Copy)]
 pub struct Hash {
     pub value: usize,
     pub plain: bool,
@@ -95,7 +97,7 @@ fn power(r: usize) -> usize
 }
 
 // The least byte at each of the eight places of a word, over the words that were seen. They are kept side by side, so that the machine takes them at once.
-#[derive(Drop)]
+#[derive(Clone, Copy)]
 struct Least {
     a: u8,
     b: u8,

@@ -1,4 +1,6 @@
 // Why a lookup with a count answers as it does, with what support asks for: the node, the entry, how many forms it stores.
+#![tactic(auto)]
+
 ghost use Rattle.std.specs.Prelude.{◌≡◌, length};
 ghost use Rattle.text.specs.Cut.{cut};
 ghost use Rattle.rules.specs.Pool.{pool};
@@ -14,7 +16,7 @@ use text::Stretch;
 
 // The first of these that holds: the file's length is not the record's; the rule's nodes are no tree; the rule divides by zero, at a node; no
 // entry has the key; the entry stores fewer segments than the form needs; the entry, the form, and the segment's start in the file and length.
-#[derive(Drop)]
+#[derive(Clone, Copy)]
 pub enum Why {
     StaleLength,
     NoTree,

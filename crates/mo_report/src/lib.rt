@@ -1,5 +1,7 @@
 // What the program `mo` says of a catalog: how many entries it has and the range of its rule, or the refusal. A library, so that another
 // program can run it on files of its own.
+#![tactic(auto)]
+
 ghost use Rattle.std.specs.Prelude.{◌≡◌};
 ghost use Rattle.mo_report.specs.Report.{report_of};
 
@@ -9,7 +11,7 @@ use refusal::{Outcome, Refusal, Side, Where};
 use rules::Rated;
 
 // The count and the range, or why and where the file is refused.
-#[derive(Drop)]
+#[derive(Clone, Copy)]
 pub enum Said {
     Entries(u32, Rated),
     Refused(Refusal),

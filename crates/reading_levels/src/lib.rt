@@ -1,5 +1,7 @@
 // The levels of the Shipped reading: the first that cuts a text, and where. A port of plurals.rs: the patterns of `parse_and`, `parse_or`,
 // .. `parse_mod`, in the order in which they are tried.
+#![tactic(auto)]
+
 ghost use Rattle.std.specs.Prelude.{◌≡◌, ◌<◌, length};
 ghost use Rattle.reading_scan.specs.Scan.{index_of};
 ghost use Rattle.reading_levels.specs.Levels.{rows, row_at, row_of, code_of};

@@ -1,5 +1,7 @@
 // A plural rule from its text, in the reading that the caller chooses, with the refusals that are common to both. A port of plurals.rs,
 // `Ast::parse`, as its callers use it; the packed nodes go into arrays that the caller lends.
+#![tactic(auto)]
+
 ghost use Rattle.std.specs.Prelude.{◌≡◌, ◌≤◌, length};
 ghost use Rattle.text.specs.Bytes.{all};
 ghost use Rattle.rules.specs.Pool.{pool};
@@ -9,14 +11,14 @@ ghost use Rattle.reading_rule.specs.Plurals.{norule, read_as, made, is_ascii, pa
 use refusal::{Error, Outcome, Refusal, Where};
 
 // The reading of rules: plurals.rs as it stands, or C's grammar.
-#[derive(Drop)]
+#[derive(Clone, Copy)]
 pub enum Reading {
     Shipped,
     Standard,
 }
 
 // What came of a rule's text, and how many nodes the rule in the arrays has: beside a refusal it is the default rule.
-#[derive(Drop)]
+#[derive(Clone, Copy)]
 pub struct Parsed {
     pub outcome: Outcome,
     pub nodes: usize,

@@ -1,5 +1,7 @@
 // What the Shipped reading looks for in a text: a pattern outside brackets, and where a bracket ends. A port of plurals.rs: `index_of` and
 // the fold of `parse_parens`; the closures are plain loops over bytes.
+#![tactic(auto)]
+
 ghost use Rattle.std.specs.Prelude.{◌≡◌, ◌&&◌, ◌<◌, ◌≤◌, eqb, length, get_or};
 ghost use Rattle.reading_scan.specs.Scan.{counted, index_of, deeper, further, end_from};
 ghost use Rattle.reading_scan.specs.Private.{matched};

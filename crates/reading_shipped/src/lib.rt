@@ -1,5 +1,7 @@
 // The Shipped reading of a plural rule: a port of plurals.rs, `Ast::parse`, `parse_parens` and the levels; `reading_levels` and `reading_scan` find where
 // to cut. A piece is a part of the text; its nodes are appended to lent arrays, and `Box<Ast>` is a place in them.
+#![tactic(auto)]
+
 ghost use Rattle.std.specs.Prelude.{◌≡◌, ◌+◌, ◌-◌, ◌≤◌, ◌<◌, length};
 ghost use Rattle.rules.specs.Pool.{pool};
 ghost use Rattle.rules.specs.Store.{push};

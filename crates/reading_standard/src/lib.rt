@@ -1,5 +1,7 @@
 // The Standard reading of a plural rule, by recursive descent over its tokens; the nodes are appended to lent arrays, each operand
 // before its parent. A level is the binary operators of one rank, counted from the tightest; ?: stands above the loosest.
+#![tactic(auto)]
+
 ghost use Rattle.std.specs.Prelude.{◌≡◌, ◌<◌, ◌≤◌, ◌-◌, length};
 ghost use Rattle.rules.specs.Pool.{pool};
 ghost use Rattle.reading_grammar.specs.Grammar.{full};
@@ -17,7 +19,7 @@ const LOOSEST: u8 = 6;
 const FULL: u8 = 7;
 
 // The next free place and the position after what was read, or no reading.
-#[derive(Drop)]
+#[derive(Clone, Copy)]
 enum Part {
     Got(usize, usize),
     Bad,

@@ -1,5 +1,7 @@
 // The tokens of a plural rule, one after the other: the token that stands next from a position on, and the position after it. The operators
 // are rows of tables.
+#![tactic(auto)]
+
 ghost use Rattle.std.specs.Prelude.{◌≡◌, get_or};
 ghost use Rattle.reading_tokens.specs.Scan.{Operator, Ranks, skipped, next, passed};
 ghost use Rattle.reading_tokens.specs.Private.{pair_from, single_from, ran};
@@ -8,7 +10,7 @@ use rules::node;
 use text_digits::Number;
 
 // The next token and the position after it: an operator by its node's code, an integer of 64 bits or Huge, or any other byte.
-#[derive(Drop)]
+#[derive(Clone, Copy)]
 pub enum Next {
     End,
     Sign(u8, usize),
@@ -18,7 +20,7 @@ pub enum Next {
 }
 
 // The position after a byte that had to come next.
-#[derive(Drop)]
+#[derive(Clone, Copy)]
 pub enum After {
     At(usize),
     Other,

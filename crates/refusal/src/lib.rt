@@ -1,11 +1,13 @@
 // Why a call is refused: each name and its number, once. Every layer answers with these names, and a host is told the numbers. The names
 // from Eof to UnknownEncoding are those of the Rust's `Error`. 9 is free: docs/SPEC.md says why.
+#![tactic(auto)]
+
 ghost use Rattle.std.specs.Prelude.{◌≡◌};
 ghost use Rattle.refusal.specs.Numbers.{number_of, outcome_number};
 ghost use Rattle.refusal.specs.Places.{at, index_of, side_of, outcome_place, side_number, named, index_or0};
 ghost use Rattle.std.proofs.Math.Option.{some};
 
-#[derive(Drop)]
+#[derive(Clone, Copy)]
 pub enum Error {
     Eof,
     BadMagic,
@@ -23,7 +25,7 @@ pub enum Error {
 }
 
 // The sides of an entry.
-#[derive(Drop)]
+#[derive(Clone, Copy)]
 pub enum Side {
     Original,
     Translation,
@@ -32,7 +34,7 @@ pub enum Side {
 }
 
 // Where a load failed: in the file as a whole, in the forced rule, or on a side of an entry, by its index.
-#[derive(Drop)]
+#[derive(Clone, Copy)]
 pub enum Where {
     File,
     Forced,
@@ -40,14 +42,14 @@ pub enum Where {
 }
 
 // Why a load was refused, and where.
-#[derive(Drop)]
+#[derive(Clone, Copy)]
 pub struct Refusal {
     pub error: Error,
     pub place: Where,
 }
 
 // How a load stands.
-#[derive(Drop)]
+#[derive(Clone, Copy)]
 pub enum Outcome {
     Loaded,
     Refused(Refusal),

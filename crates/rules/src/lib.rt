@@ -1,6 +1,8 @@
 // A plural rule as nodes in arrays of numbers. A port of plurals.rs: `Ast`, `Operator`; `Box<Ast>` is a place in the arrays.
 // The crate `rules_tree` tests that they are a tree, `rules_value` has its value at a count, `rules_range` its range, and `rules_pack` packs
 // them; their answers are declared here, since the definitions name them.
+#![tactic(auto)]
+
 ghost use Rattle.std.specs.Prelude.{◌≡◌, ◌+◌, ◌<◌, ◌*◌, get_or};
 ghost use Rattle.rules.specs.Tree.{default_tree};
 ghost use Rattle.rules.specs.Pool.{pool};
@@ -14,28 +16,28 @@ pub mod node;
 pub const MOST: usize = 512;
 
 // The value of a rule at a count.
-#[derive(Drop)]
+#[derive(Clone, Copy)]
 pub enum Value {
     Is(u64),
     ZeroModulus,
 }
 
 // The lowest and the highest value of a rule, or none.
-#[derive(Drop)]
+#[derive(Clone, Copy)]
 pub enum Rating {
     Range(u64, u64),
     Unrated,
 }
 
 // What reading a rule leaves in the lent arrays: this many nodes, or nothing of use.
-#[derive(Drop)]
+#[derive(Clone, Copy)]
 pub enum Nodes {
     Read(usize),
     NoReading,
 }
 
 // The value of a rule in a pool at a count.
-#[derive(Drop)]
+#[derive(Clone, Copy)]
 pub enum Resolved {
     Form(u64),
     ZeroModulus,
@@ -43,7 +45,7 @@ pub enum Resolved {
 }
 
 // The range of a rule in a pool.
-#[derive(Drop)]
+#[derive(Clone, Copy)]
 pub enum Rated {
     Range(u64, u64),
     Unrated,
@@ -51,7 +53,7 @@ pub enum Rated {
 }
 
 // Whether the forms of a rule in a pool are all below a number.
-#[derive(Drop)]
+#[derive(Clone, Copy)]
 pub enum Fit {
     Yes,
     No,
@@ -59,21 +61,21 @@ pub enum Fit {
 }
 
 // Whether a tree is an integer, and which.
-#[derive(Drop)]
+#[derive(Clone, Copy)]
 pub enum Number {
     Is(u64),
     Other,
 }
 
 // Whether it is one that a field holds.
-#[derive(Drop)]
+#[derive(Clone, Copy)]
 pub enum Small {
     Is(u16),
     Other,
 }
 
 // Whether a tree is n, n % m with m below 65536, or another.
-#[derive(Drop)]
+#[derive(Clone, Copy)]
 pub enum Left {
     Count,
     Rest(u16),

@@ -1,4 +1,6 @@
 // A rule's operators on numbers. A port of plurals.rs: `resolve`, the arms of `Ast::Op`.
+#![tactic(auto)]
+
 ghost use Rattle.std.specs.Prelude.{◌≡◌, ◌*◌, ◌%◌, ◌^◌};
 ghost use Rattle.rules.specs.Value.{truth};
 ghost use Rattle.rules.specs.Operator.{op_of, Named};

@@ -1,5 +1,7 @@
 // Packs a rule: from the nodes that a reader leaves, which are each n, each integer and each operator, to fewer nodes that hold most of the
 // leaves in themselves.
+#![tactic(auto)]
+
 ghost use Rattle.std.specs.Prelude.{◌≡◌, ◌+◌, ◌-◌, ◌≤◌, ◌<◌, get_or};
 ghost use Rattle.rules.specs.Pool.{pool, tree_of};
 ghost use Rattle.rules.specs.Promise.{Plain};

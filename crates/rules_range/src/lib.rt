@@ -1,4 +1,6 @@
 // The range of a plural rule, by the range table, and whether its forms are all below a number. The nodes are those of `rules`.
+#![tactic(auto)]
+
 ghost use Rattle.std.specs.Prelude.{◌≡◌, ◌+◌, ◌-◌, ◌<◌, ◌≤◌, ◌*◌, ◌^◌, min, max, get_or, ltb};
 ghost use Rattle.rules.specs.declared.Rating.TheVariants as rating;
 ghost use Rattle.rules.specs.Tree.{rem};

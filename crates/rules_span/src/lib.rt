@@ -1,4 +1,6 @@
 // Which forms a rule names over a span of counts, and how often.
+#![tactic(auto)]
+
 ghost use Rattle.std.specs.Prelude.{◌≡◌, ◌<◌, ◌≤◌, ◌+◌, ◌^◌, get_or};
 ghost use Rattle.rules.specs.Pool.{pool, tree_of};
 ghost use Rattle.rules.specs.Promise.{Sound};
@@ -10,7 +12,7 @@ use rules::Value;
 // The figures of forms 0 to 15, then of those above, then of the counts that meet a zero divisor.
 pub const LINES: usize = 18;
 
-#[derive(Drop)]
+#[derive(Clone, Copy)]
 pub enum Counting {
     Counted,
     BadSpan,

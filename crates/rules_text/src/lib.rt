@@ -1,5 +1,7 @@
 // The text of a rule, with round brackets around every operator and its operands. The Standard reading of that text gives the rule back, and so does
 // the Shipped one if the rule has no + - * / (crate `reading_bracketed`).
+#![tactic(auto)]
+
 ghost use Rattle.std.specs.Prelude.{◌≡◌, [], ◌∷◌, ◌<◌, ◌≤◌, min, length, get_or};
 ghost use Rattle.std.proofs.Math.Seq.{paste};
 ghost use Rattle.rules.specs.Operator.{op_of, Named};
@@ -18,7 +20,7 @@ const MOST: usize = 512;
 
 // What came of writing a rule's text into a buffer: its length, or that it has more than 512 bytes or more than the buffer, or that the
 // nodes are no tree.
-#[derive(Drop)]
+#[derive(Clone, Copy)]
 pub enum Writing {
     Length(usize),
     TooLong,

@@ -1,5 +1,7 @@
 // The test that the nodes of a rule are a tree, place by place with a mark for each operand. A record can be altered, so every
 // plural lookup and every rating begins with it. And where a walk over them can go in a loop.
+#![tactic(auto)]
+
 ghost use Rattle.std.specs.Prelude.{◌≡◌, true, [], ◌+◌, ◌<◌, ◌≤◌, ◌*◌, length, get_or};
 ghost use Rattle.rules.specs.Pool.{pool, nay_node, used, shaped, is_tree};
 ghost use Rattle.rules_tree.specs.Promise.{above, Stands};

@@ -1,4 +1,6 @@
 // The value of a plural rule at a count. A port of plurals.rs: `resolve`.
+#![tactic(auto)]
+
 ghost use Rattle.std.specs.Prelude.{◌≡◌, true, ◌<◌, ◌+◌, ◌-◌, ◌*◌, get_or};
 ghost use Rattle.rules.specs.Value.{eval_tree};
 ghost use Rattle.rules.specs.Pool.{pool, tree_of, nay_node, pair_op};

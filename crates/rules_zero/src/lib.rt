@@ -1,4 +1,6 @@
 // Which node of a plural rule meets a zero divisor at a count. An evaluation tells that one is met (`rules_value`); what follows is done only then.
+#![tactic(auto)]
+
 ghost use Rattle.std.specs.Prelude.{◌≡◌};
 ghost use Rattle.rules.specs.Pool.{pool};
 ghost use Rattle.rules.specs.Promise.{Sound};
@@ -9,7 +11,7 @@ use rules_operators::settles;
 use rules_value::value_at;
 
 // The value of a rule at a count, or the node that meets a zero divisor there.
-#[derive(Drop)]
+#[derive(Clone, Copy)]
 pub enum Traced {
     Form(u64),
     ZeroDivisor(usize),

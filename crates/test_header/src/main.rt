@@ -1,5 +1,7 @@
 // The header's answer for a list of headers: where the label and the rule lie, as texts in brackets, - where there is none, 4 where a
 // line is no field. Then labels: 1 for those of UTF-8. What it should write was written by the Rust's own metadata.rs and `encoding`.
+#![tactic(auto)]
+
 use header::Metadata;
 use text::Stretch;
 

@@ -1,5 +1,7 @@
 // What `mo` does on each file of data/: one without a byte, one of as many bytes as it reads, one of a byte more, one whose rule has no range,
 // and a refused one at least for each row of SPEC 2.1 that it can give.
+#![tactic(auto)]
+
 fn show(name: &[u8]) {
     io::write_all(1, name);
     io::write_all(1, b":\n");

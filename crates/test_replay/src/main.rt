@@ -1,6 +1,8 @@
 // Replays answers that were written down: of the Rust crate, of document 01 where the crate has none, and of the Standard reading. The
 // list on standard input is made by `oracle/sample`, and oracle/src/sample.rs says how it is laid out. Writes how many cases agree, and
 // the place in the list of each that does not, counted from 0.
+#![tactic(auto)]
+
 ghost use Rattle.std.specs.Prelude.{◌<◌};
 
 use container::{Options, Record};

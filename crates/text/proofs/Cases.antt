@@ -14,12 +14,12 @@ pub record Row : Type 0 where
   pub text : List ℕ
   pub other : List ℕ
   pub equal : Bool
-  pub equal_small_lem : Bool
+  pub equal_small : Bool
   pub starts : Bool
   pub found : Found
 
 abbrev row : List ℕ → List ℕ → Bool → Bool → Bool → Found → Row
-row s t e m b f = record { text = s; other = t; equal = e; equal_small_lem = m; starts = b; found = f }
+row s t e m b f = record { text = s; other = t; equal = e; equal_small = m; starts = b; found = f }
 
 abbrev pub rows : List Row
 rows =

@@ -1,11 +1,13 @@
 // Texts of bytes: the small questions that the layers above share. How far bytes within bounds go on, where a byte stands first; whether
 // texts are the same, as written or in small letters, and where one stands in another. Not in the Rust, which has them from std.
+#![tactic(auto)]
+
 ghost use Rattle.std.specs.Prelude.{◌≡◌, ◌&&◌, map, ◌+◌, ◌≤◌, length, drop, leb};
 ghost use Rattle.text.specs.Bytes.{within, all, front, place, same, begins, first, small, read};
 ghost use Rattle.text.specs.Private.{in_run, Flags, Blocks, differ_of, differences, alike, common_of, Least};
 
 // A part of a text, its start and its length, or none.
-#[derive(Drop)]
+#[derive(Clone, Copy)]
 pub enum Stretch {
     At(usize, usize),
     Absent,
@@ -25,7 +27,7 @@ fn outside(b: u8, lo: u8, hi: u8) -> u8
 }
 
 // What a run is made of: bytes within the bounds, or bytes that are not.
-#[derive(Drop)]
+#[derive(Clone, Copy)]
 enum Run {
     Within,
     Without,
@@ -140,7 +142,7 @@ pub fn find_byte(s: &[u8], x: u8) -> usize
 }
 
 // How the letters of a text are read.
-#[derive(Drop)]
+#[derive(Clone, Copy)]
 pub enum Case {
     AsWritten,
     Small,
@@ -361,7 +363,7 @@ pub fn equal_small(s: &[u8], other: &[u8]) -> bool
 }
 
 // Where a pattern stands first.
-#[derive(Drop)]
+#[derive(Clone, Copy)]
 pub enum Found {
     At(usize),
     Nowhere,

@@ -1,10 +1,12 @@
 // The value of decimal digits, for all who read them: both readings of a rule, and a header's count of forms. `u64::from_str_radix` in base
 // ten, which the crate asks of Rust's library, is `integer_of`.
+#![tactic(auto)]
+
 ghost use Rattle.std.specs.Prelude.{◌≡◌};
 ghost use Rattle.text_digits.specs.Digits.{digit, digit_on, digits, integer};
 
 // What digits come to: a number of 64 bits, or none.
-#[derive(Drop)]
+#[derive(Clone, Copy)]
 pub enum Number {
     Whole(u64),
     NoNumber,

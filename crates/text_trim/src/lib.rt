@@ -1,11 +1,13 @@
 // Texts without the white space at their ends. Not in the Rust, which has it from std.
+#![tactic(auto)]
+
 ghost use Rattle.std.specs.Prelude.{◌≡◌, [], ◌∷◌, ◌+◌, ◌≤◌, length, get_or};
 ghost use Rattle.text_trim.specs.Trim.{chars_of, white_space, lead, edge, trim, trim_end, Trims};
 ghost use Rattle.text_trim.specs.Private.{three_if, ends_so, Last};
 
 // The characters that are trimmed: of header names, values and rules all of Unicode's White_Space, of names inside Plural-Forms six bytes,
 // of a charset label five.
-#[derive(Drop)]
+#[derive(Clone, Copy)]
 pub enum Set {
     WhiteSpace,
     Six,
@@ -201,7 +203,7 @@ fn trimmed_end(s: &[u8], set: Set) -> usize
 }
 
 // A part of a text by its place.
-#[derive(Drop)]
+#[derive(Clone, Copy)]
 pub struct Part {
     pub start: usize,
     pub len: usize,

@@ -1,5 +1,7 @@
 // The UTF-8 test. Not in the Rust, which has it from std; from RFC 3629. Two quick tests, by blocks, pass most texts; any other is read
 // byte by byte, by a table of byte classes.
+#![tactic(auto)]
+
 ghost use Rattle.std.specs.Prelude.{◌≡◌, true, ◌+◌, ◌<◌, ◌≤◌, length};
 ghost use Rattle.std.proofs.Math.Option.{some};
 ghost use Rattle.text.specs.Bytes.{within};
