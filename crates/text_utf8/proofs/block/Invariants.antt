@@ -1,0 +1,17 @@
+-- The loop's invariant: where no flag is set, the first k bytes of the block are right after the two before. The measure is what is left of
+-- the block. Assumes nothing.
+use Prim.Native.Nat.{◌+◌, ◌-◌, ◌≤◌}
+use mathlib.Core.Path.{◌≡◌}
+use native.Mathlib.Omega.{arith}
+use borrow.Author.Rules.{rules}
+use borrow.Author.Tests.{eqb-true}
+use Rattle.text.proofs.Flags.{or_left, or_right}
+use Rattle.text_utf8.specs.Private.{Plain}
+use Rattle.text_utf8.proofs.Plain.{plain_none, plain_more, plain_to}
+use Rattle.text_utf8.proofs.block.Given as goal
+
+abbrev pub invariant-loop-k : goal.invariant-loop-k
+invariant-loop-k l = (l.z ≡ 0 → Plain l.s l.i (l.i + l.k)) × (l.k ≤ 16)
+
+abbrev pub decreases-loop-k : goal.decreases-loop-k
+decreases-loop-k l = 16 - l.k
