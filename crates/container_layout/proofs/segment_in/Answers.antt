@@ -10,7 +10,7 @@ pub overflow_add-result : goal.overflow_add-result
 overflow_add-result c = omega (arith, c.loop-left.invariant.0)
 
 pub overflow_sub-result : goal.overflow_sub-result
-overflow_sub-result c = rest_after 0 _ _ _ c.find_byte_from-end.ensures
+overflow_sub-result c = omega (arith, rest_after 0 _ _ _ c.find_byte_from-end.ensures)
 
 pub returns-then-left-eq0 : goal.returns-then-left-eq0
 returns-then-left-eq0 c = sought_here _ _ _ _ _ _ c.find_byte_from-end.ensures c.loop-left.invariant.0 c.loop-left.invariant.1 c.if-left-eq0.true
