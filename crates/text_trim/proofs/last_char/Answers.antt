@@ -8,7 +8,7 @@ pub returns-then-n-eq0 : goal.returns-then-n-eq0
 returns-then-n-eq0 c = last_empty c.args.set c.args.s.now c.if-n-eq0.true
 
 pub returns-then-b-lt128 : goal.returns-then-b-lt128
-returns-then-b-lt128 c = last_ascii c.args.set c.args.s.now (omega arith) c.if-b-lt128.true _ c.one_byte.ensures
+returns-then-b-lt128 c = last_ascii c.args.set c.args.s.now (omega arith) (omega arith) _ c.one_byte.ensures
 
 pub returns-then-ends_so : goal.returns-then-ends_so
 returns-then-ends_so c = last_is c.args.set c.args.s.now 2 (omega arith) (sym c.ends_so.ensures ∙ c.if-ends_so.true)
@@ -17,4 +17,4 @@ pub returns-then-ends_so-2 : goal.returns-then-ends_so-2
 returns-then-ends_so-2 c = last_is c.args.set c.args.s.now 3 (omega arith) (sym c.ends_so-2.ensures ∙ c.if-ends_so-2.true)
 
 pub returns : goal.returns
-returns c = last_none c.args.set c.args.s.now c.if-b-lt128.false (sym c.ends_so.ensures ∙ c.if-ends_so.false) (sym c.ends_so-2.ensures ∙ c.if-ends_so-2.false)
+returns c = last_none c.args.set c.args.s.now (omega arith) (sym c.ends_so.ensures ∙ c.if-ends_so.false) (sym c.ends_so-2.ensures ∙ c.if-ends_so-2.false)
