@@ -1,7 +1,7 @@
 -- What a header's answer hangs on: whether every line that is not empty has a colon, the last Content-Type and the last Plural-Forms.
 -- Two headers that agree on these give the same label and the same rule, as texts, and the same count of forms. Assumes nothing.
 use Prim.Native.Nat.{ℕ, ◌+◌, ◌≤◌}
-use mathlib.Core.Path.{◌≡◌, refl, sym, ap, ap₂, ◌∙◌}
+use mathlib.Core.Path.{◌≡◌, refl, sym, ap, ◌∙◌}
 use mathlib.Core.Bool.{Bool, true, false}
 use mathlib.Core.List.{List}
 use mathlib.Core.Option.{Option, none, some}

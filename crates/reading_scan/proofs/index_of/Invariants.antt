@@ -1,0 +1,16 @@
+-- `index_of`: what is sought in the whole text is sought in the rest of it, with the counters as they are (Scanned). The counters
+-- stay below the bytes passed. The measure is the rest's length.
+use Prim.Native.Nat.{◌≤◌, ◌-◌}
+use mathlib.Core.Path.{◌≡◌, sym, ◌∙◌}
+use lib.ListN.{length, drop, get_or}
+use borrow.Author.Rules.{rules}
+use native.Mathlib.Omega.{arith}
+use Rattle.reading_scan.specs.Scan.{index_of, index_from}
+use Rattle.reading_scan.proofs.Scanned.{index_zero, index_on, index_here, index_end, counted_le, matched_le}
+use Rattle.reading_scan.proofs.index_of.Given as goal
+
+abbrev pub invariant-loop-i : goal.invariant-loop-i
+invariant-loop-i l = (l.i ≤ length l.s) × (l.n ≤ l.i) × (l.opened ≤ l.i) × (l.closed ≤ l.i) × (index_of l.pat l.s ≡ index_from l.pat (drop l.i l.s) l.i l.n l.opened l.closed)
+
+abbrev pub decreases-loop-i : goal.decreases-loop-i
+decreases-loop-i l = length l.s - l.i
