@@ -1,7 +1,6 @@
 -- The slots used, by the length of the count in bits. Assumes nothing.
-use Prim.Native.Nat.{ℕ, suc, ◌+◌, ◌-◌, ◌*◌, ◌%◌, ◌^◌, ◌<◌, ◌≤◌}
+use Prim.Native.Nat.{ℕ, ◌+◌, ◌-◌, ◌*◌, ◌%◌, ◌^◌, ◌<◌, ◌≤◌}
 use mathlib.Core.Path.{◌≡◌, refl, sym, ap, ◌∙◌}
-use mathlib.Core.Bool.{true, false}
 use native.Mathlib.Omega.{arith}
 use native.Mathlib.Nat.{mod-eq_of_lt}
 use lib.Count.{count_leading_zeros, leading_le, leading_length}
@@ -9,9 +8,8 @@ use lib.Pow.{pow_mono}
 use lib.Dec.{leb}
 use borrow.Author.Tests.{le-leb, lt-leb, leb-true, leb-false}
 use Rattle.text.proofs.Tests.{taken, left, by_test}
-use Rattle.lookup_slots.specs.Used.{used, Smallest}
+use Rattle.lookup_slots.specs.Used.{used}
 use Rattle.lookup_slots.specs.Promise.{room_in}
-use Rattle.lookup_slots.specs.declared.Room.{Room}
 use Rattle.lookup_slots.specs.declared.Room.TheVariants.{Uses, TooFew}
 use Rattle.lookup_slots.proofs.Used.{power_twice, used_smallest, smallest_one}
 
