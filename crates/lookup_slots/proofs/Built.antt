@@ -181,7 +181,7 @@ module _ (k : ℕ → Option (List ℕ)) where
   }
 
   pub insert_length : (i : ℕ) (o : Option (List ℕ)) (s : List ℕ) → length (insert k i o s) ≡ length s
-  insert_length i (some d) s = length-set s (place k d s) (suc i)
+  insert_length i (some d) s = length-set s _ (suc i)
   insert_length i none s = refl
 
   module _ (m : ℕ) where
