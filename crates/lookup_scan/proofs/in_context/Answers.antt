@@ -2,17 +2,14 @@
 use mathlib.Core.Path.{sym}
 use native.Mathlib.Omega.{arith}
 use lib.Seq.{length-take-le}
-use Rattle.lookup_scan.proofs.Keys.{too_short, not_four, by_context}
+use Rattle.lookup_scan.proofs.Keys.{too_short, by_context}
 use Rattle.lookup_scan.proofs.in_context.Goals as goal
 
 pub returns-then-key-n : goal.returns-then-key-n
 returns-then-key-n c = too_short _ _ c.if-key-n.true
 
-pub returns-then-key-n-ne4 : goal.returns-then-key-n-ne4
-returns-then-key-n-ne4 c = not_four _ _ c.if-key-n.false c.if-key-n-ne4.true
-
 pub slice_bounds-equal-end : goal.slice_bounds-equal-end
 slice_bounds-equal-end c = sym (length-take-le _ _ (omega arith))
 
 pub returns : goal.returns
-returns c = by_context _ _ c.if-key-n.false c.if-key-n-ne4.false c.equal.ensures
+returns c = by_context _ _ c.if-key-n.false (omega arith) c.equal.ensures
