@@ -1,5 +1,5 @@
 -- An entry as loading reads it, and the facts that it states: each way. Assumes nothing.
-use Prim.Native.Nat.{ℕ, zero, suc, ◌<◌}
+use Prim.Native.Nat.{ℕ}
 use mathlib.Core.Path.{◌≡◌, refl, sym, ap, ap₂, ◌∙◌}
 use mathlib.Core.Bool.{Bool, true, false}
 use mathlib.Core.List.{List, [], ◌∷◌}
@@ -21,7 +21,6 @@ use Rattle.container_messages.specs.declared.Original.{Original}
 use Rattle.container_messages.specs.declared.Original.TheVariants as original
 use Rattle.container_messages.specs.declared.Translation.{Translation}
 use Rattle.container_messages.specs.declared.Translation.TheVariants as translation
-use Rattle.container_messages.specs.declared.Read.{Read}
 use Rattle.container_messages.specs.declared.Read.TheVariants as read
 use Rattle.container_messages.specs.Good.{Good}
 

@@ -57,6 +57,7 @@ each f (e ∷ cs) = f e && each f cs
 pub each_at : (f : List ℕ → Bool) (cs : Chars) → each f cs ≡ true → {e : List ℕ} → In e cs → f e ≡ true
 each_at f (d ∷ cs) h (here p) = rw p (and_left (f d) (each f cs) h)
 each_at f (d ∷ cs) h (there i) = each_at f cs (and_right (f d) (each f cs) h) i
+each_at f [] h {e = e} x'' = elim x'' [ ]
 
 abbrev other : List ℕ → List ℕ → Bool
 other d e = not (begins d e) || same d e

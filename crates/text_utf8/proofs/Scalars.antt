@@ -203,6 +203,7 @@ decode b (there (there (there (there (there (there (there (here l h)))))))) (nex
     from_four b p q r (omega arith) (omega arith) i j k m n o (omega arith) (omega arith)
 decode b (there (there (there (there (there (there (there (there (here l h))))))))) (next {b = p} i j (next {b = q} k m (next {b = r} n o none_left))) =
     from_four b p q r (omega arith) (omega arith) (omega arith) (omega arith) k m n o (omega arith) (omega arith)
+decode b {rs = rs} {bs = bs} (there (there (there (there (there (there (there (there (there x81))))))))) _ = elim x81 [ ]
 
 -- the first character of a right text, with the run that its rest is
 first_char : (b : ℕ) (s : List ℕ) → ((t : List ℕ) → length t ≤ length s → utf8 t ≡ true → Text t) → (o : Option (List Bytes)) → after table b ≡ o

@@ -2,12 +2,7 @@
 -- the block. Assumes nothing.
 use Prim.Native.Nat.{◌+◌, ◌-◌, ◌≤◌}
 use mathlib.Core.Path.{◌≡◌}
-use native.Mathlib.Omega.{arith}
-use borrow.Author.Rules.{rules}
-use borrow.Author.Tests.{eqb-true}
-use Rattle.text.proofs.Flags.{or_left, or_right}
 use Rattle.text_utf8.specs.Private.{Plain}
-use Rattle.text_utf8.proofs.Plain.{plain_none, plain_more, plain_to}
 use Rattle.text_utf8.proofs.block.Given as goal
 
 abbrev pub invariant-loop-k : goal.invariant-loop-k

@@ -1,9 +1,7 @@
 -- The loop's invariant: the machine has read the text up to i. The measure is what is left. Assumes nothing.
 use Prim.Native.Nat.{◌-◌, ◌≤◌}
-use native.Mathlib.Omega.{arith}
 use lib.ListN.{length}
-use borrow.Author.Rules.{rules}
-use Rattle.text_utf8.proofs.Machine.{Reaches, begins, goes_on, ends}
+use Rattle.text_utf8.proofs.Machine.{Reaches}
 use Rattle.text_utf8.proofs.by_table.Given as goal
 
 abbrev pub invariant-loop-i : goal.invariant-loop-i

@@ -2,7 +2,6 @@
 use mathlib.Core.Path.{refl, sym, ◌∙◌}
 use Rattle.text_utf8.proofs.Ascii.{ascii_right}
 use Rattle.text_utf8.proofs.Machine.{tables_by_test}
-use borrow.Author.Rules.{rules}
 use Rattle.text_utf8.proofs.is_utf8.Goals as goal
 
 pub returns-then-all_within : goal.returns-then-all_within

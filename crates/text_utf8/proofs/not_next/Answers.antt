@@ -1,7 +1,6 @@
 -- The two tests are the bounds. Assumes nothing.
 use native.Mathlib.Omega.{arith}
 use Rattle.text_utf8.proofs.Plain.{follows_in}
-use borrow.Author.Rules.{rules}
 use Rattle.text_utf8.proofs.not_next.Goals as goal
 
 pub returns-then-d-lowest : goal.returns-then-d-lowest
