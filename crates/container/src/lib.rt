@@ -26,7 +26,7 @@ pub struct Options {
 }
 
 // What a lookup needs beside the file: its tables, and the rule's nodes. And the header's count of forms, which no lookup looks at.
-#[derive(Drop)]
+#[derive(Clone, Copy)]
 pub struct Record {
     pub tables: Tables,
     pub codes: [u8; 512],
@@ -38,7 +38,7 @@ pub struct Record {
 }
 
 // How a load went: the tables, those of the empty catalog where it is refused, how many nodes the rule in the arrays has, and the count.
-#[derive(Drop)]
+#[derive(Clone, Copy)]
 pub struct Loading {
     pub outcome: Outcome,
     pub tables: Tables,
@@ -47,7 +47,7 @@ pub struct Loading {
 }
 
 // The same with the rule, as a record by value.
-#[derive(Drop)]
+#[derive(Clone, Copy)]
 pub struct Loaded {
     pub outcome: Outcome,
     pub record: Record,

@@ -1,14 +1,14 @@
 -- Sums of stated lengths, as the loops meet them. Assumes nothing.
 use Prim.Native.Nat.{ℕ, zero, suc, ◌+◌, ◌-◌, ◌*◌, ◌^◌, ◌<◌, ◌≤◌}
 use mathlib.Core.Path.{◌≡◌, refl, sym, ap, ◌∙◌}
-use mathlib.Core.Bool.{Bool, true, false}
+use mathlib.Core.Bool.{Bool}
 use mathlib.Core.List.{List}
 use native.Mathlib.Omega.{arith}
 use lib.Dec.{ltb}
 use lib.ListN.{length}
-use borrow.Author.Tests.{le-leb, lt-leb, lt-ltb, le-ltb, ltb-true, ltb-false}
+use borrow.Author.Tests.{le-leb, lt-leb, lt-ltb, le-ltb, ltb-false}
 use Rattle.text.proofs.Tests.{taken, left, by_test}
-use Rattle.container_layout.specs.Mo.{word, has_cell}
+use Rattle.container_layout.specs.Mo.{word}
 use Rattle.refusal.specs.declared.Error.{Error}
 use Rattle.container_layout.specs.declared.Tables.{Tables}
 use Rattle.container_head.specs.Head.{head_of}

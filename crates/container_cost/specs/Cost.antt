@@ -2,7 +2,6 @@
 -- tests each entry's by themselves, and entries may overlap.
 use Rattle.std.specs.Prelude.{ℕ, zero, suc, ◌+◌, ◌*◌, ◌-◌, ◌^◌, Bool, true, false, List, ltb}
 use Rattle.container_layout.specs.Mo.{word, has_cell}
-use Rattle.container_layout.specs.declared.Tables.{Tables}
 use Rattle.container_head.specs.Head.{head_of}
 use Rattle.container_head.specs.declared.Head.{Head}
 use Rattle.container_head.specs.declared.Head.TheVariants as head

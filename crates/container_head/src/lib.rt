@@ -63,6 +63,7 @@ fn parse_tables(file: &[u8], big: bool) -> Head
 }
 
 // Byte order, count and tables, or why there are none.
+#[tactic(auto, using(crate::proofs::Heads::too_short))]
 pub fn parse_head(file: &[u8]) -> Head
     ensures { result ≡ head_of file.now }
 {

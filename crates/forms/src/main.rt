@@ -7,6 +7,8 @@ ghost use Rattle.std.specs.Prelude.{◌≤◌, length};
 use reading_rule::Reading;
 use refusal::{Outcome, Where};
 use rules_span::Counting;
+use std::io;
+use std::io::Write;
 use text_digits::Number;
 
 // Where the line ends that a place is in.
@@ -35,31 +37,28 @@ fn after(s: &[u8], end: usize) -> usize
     end
 }
 
-fn refuse(number: u32) {
-    io::write_all(1, b"refused ");
-    io::print_decimal(1, number as u64);
-    io::write_all(1, b"\n");
+fn refuse<W: Write>(out: &mut W, number: u32) -> io::Result<()> {
+    writeln!(out, "refused {number}")
 }
 
 // A line for each form, those of which no count has any too, then the forms above and the zero divisors.
-fn show(figures: &[u64; 18]) {
+fn show<W: Write>(out: &mut W, figures: &[u64; 18]) -> io::Result<()> {
     let mut i = 0;
     while i < 18 {
+        let figure = figures[i];
         if i == 16 {
-            io::write_all(1, b"above");
+            writeln!(out, "above {figure}")?;
         } else if i == 17 {
-            io::write_all(1, b"zero");
+            writeln!(out, "zero {figure}")?;
         } else {
-            io::print_decimal(1, i as u64);
+            writeln!(out, "{i} {figure}")?;
         }
-        io::write_all(1, b" ");
-        io::print_decimal(1, figures[i]);
-        io::write_all(1, b"\n");
         i += 1;
     }
+    Ok(())
 }
 
-fn count(rule: &[u8], a: u64, b: u64) {
+fn count<W: Write>(out: &mut W, rule: &[u8], a: u64, b: u64) -> io::Result<()> {
     let mut codes = [0u8; 512];
     let mut places = [0u16; 1024];
     let mut values = [0u64; 512];
@@ -73,12 +72,11 @@ fn count(rule: &[u8], a: u64, b: u64) {
     );
     let outcome = parsed.outcome;
     if let Outcome::Refused(e) = outcome {
-        refuse(refusal::number_of(refusal::error_of(e)));
-        return;
+        return refuse(out, refusal::number_of(refusal::error_of(e)));
     }
     let nodes = parsed.nodes;
     if nodes == 0 {
-        return;
+        return Ok(());
     }
     let mut figures = [0u64; 18];
     let counting = rules_span::tally(
@@ -92,30 +90,28 @@ fn count(rule: &[u8], a: u64, b: u64) {
         &mut figures,
     );
     match counting {
-        Counting::Counted => show(&figures),
-        _ => refuse(rules_span::number_of(counting)),
+        Counting::Counted => show(out, &figures),
+        _ => refuse(out, rules_span::number_of(counting)),
     }
 }
 
-fn run(s: &[u8]) {
+fn run<W: Write>(out: &mut W, s: &[u8]) -> io::Result<()> {
     let rule = line_end(s, 0);
     let first = after(s, rule);
     let first_end = line_end(s, first);
     let last = after(s, first_end);
     let last_end = line_end(s, last);
     let Number::Whole(a) = text_digits::integer_of(&s[first..first_end]) else {
-        io::write_all(1, b"the second line is no count\n");
-        return;
+        return writeln!(out, "the second line is no count");
     };
     let Number::Whole(b) = text_digits::integer_of(&s[last..last_end]) else {
-        io::write_all(1, b"the third line is no count\n");
-        return;
+        return writeln!(out, "the third line is no count");
     };
-    count(&s[..rule], a, b);
+    count(out, &s[..rule], a, b)
 }
 
-fn main() {
-    let mut buffer = io::large_buffer();
-    let n = io::read_full(0, &mut buffer);
-    run(&buffer[..n]);
+fn main(rt: HostRuntime) -> io::Result<()> {
+    let mut buffer = [0u8; 65536];
+    let n = stream::read_full(&mut rt.reader(), &mut buffer)?;
+    run(&mut io::writer(&rt), &buffer[..n])
 }

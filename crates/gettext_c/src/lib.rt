@@ -1,6 +1,6 @@
-// The port for a host in C or Rust, as a static library: the file is lent, numbers come back, and the host takes the text that they
+// The port for a host in C or Rust: the file is lent, numbers come back, and the host takes the text that they
 // name from its own memory. A record is what the host keeps of a load: its head, seven numbers, and the three arrays of its rule's nodes,
-// which a load writes and every other function only reads.
+// which a load writes and every other function only reads. `gettext_c_c` exports each as a static library.
 #![tactic(auto)]
 
 ghost use Rattle.std.specs.Prelude.{◌≡◌};
@@ -23,8 +23,7 @@ use host::{Answer, Explained, Fits, Form, Loaded, Rating, Written, tables_in};
 use refusal::Outcome;
 
 // The empty catalog.
-#[unsafe(no_mangle)]
-pub extern "C" fn gettext_c_empty(
+pub fn gettext_c_empty(
     codes: &mut [u8; 512],
     places: &mut [u16; 1024],
     values: &mut [u64; 512],
@@ -37,8 +36,7 @@ pub extern "C" fn gettext_c_empty(
 
 // Loads the catalog that lies in the file. `rule` is read where `forced` is set; `standard` chooses the reading of rules; `fit` demands that the
 // rule fit the header's count of forms.
-#[unsafe(no_mangle)]
-pub extern "C" fn gettext_c_load<'a>(
+pub fn gettext_c_load<'a>(
     file: &'a [u8],
     rule: &'a [u8],
     forced: u32,
@@ -59,8 +57,7 @@ pub extern "C" fn gettext_c_load<'a>(
 
 // A lookup without a count: `gettext`, and where `given` is set `pgettext`, whose context it is. Each lookup is one function with a flag for the
 // context, and not two, so that the compiler makes one piece of all that it calls.
-#[unsafe(no_mangle)]
-pub extern "C" fn gettext_c_gettext<'a>(
+pub fn gettext_c_gettext<'a>(
     file: &'a [u8],
     head: &'a [usize; 7],
     given: u32,
@@ -74,8 +71,7 @@ pub extern "C" fn gettext_c_gettext<'a>(
 }
 
 // A lookup with a count: `ngettext`, and where `given` is set `npgettext`.
-#[unsafe(no_mangle)]
-pub extern "C" fn gettext_c_ngettext<'a>(
+pub fn gettext_c_ngettext<'a>(
     file: &'a [u8],
     head: &'a [usize; 7],
     codes: &'a [u8; 512],
@@ -108,8 +104,7 @@ pub extern "C" fn gettext_c_ngettext<'a>(
 }
 
 // How many slots the index of a record uses.
-#[unsafe(no_mangle)]
-pub extern "C" fn gettext_c_slots<'a>(head: &'a [usize; 7]) -> usize
+pub fn gettext_c_slots<'a>(head: &'a [usize; 7]) -> usize
     ensures { result ≡ used (tables_in head.now).count }
 {
     let t = tables_in(head);
@@ -117,12 +112,7 @@ pub extern "C" fn gettext_c_slots<'a>(head: &'a [usize; 7]) -> usize
 }
 
 // Builds the index of a record and its file in the first of the slots lent, and answers its number.
-#[unsafe(no_mangle)]
-pub extern "C" fn gettext_c_index<'a>(
-    file: &'a [u8],
-    head: &'a [usize; 7],
-    slots: &mut [u32],
-) -> u32
+pub fn gettext_c_index<'a>(file: &'a [u8], head: &'a [usize; 7], slots: &mut [u32]) -> u32
     ensures { Indexes file.now head.now slots.old slots.new result }
 {
     let building = lookup_index::build(file, tables_in(head), slots);
@@ -130,8 +120,7 @@ pub extern "C" fn gettext_c_index<'a>(
 }
 
 // The same lookups in slots that an index of this record and this file was built in. Other slots do no harm.
-#[unsafe(no_mangle)]
-pub extern "C" fn gettext_c_gettext_indexed<'a>(
+pub fn gettext_c_gettext_indexed<'a>(
     file: &'a [u8],
     head: &'a [usize; 7],
     slots: &'a [u32],
@@ -145,8 +134,7 @@ pub extern "C" fn gettext_c_gettext_indexed<'a>(
     host::answer_of(reason, 1)
 }
 
-#[unsafe(no_mangle)]
-pub extern "C" fn gettext_c_ngettext_indexed<'a>(
+pub fn gettext_c_ngettext_indexed<'a>(
     file: &'a [u8],
     head: &'a [usize; 7],
     slots: &'a [u32],
@@ -181,8 +169,7 @@ pub extern "C" fn gettext_c_ngettext_indexed<'a>(
 }
 
 // The lowest and the highest form of a record's rule.
-#[unsafe(no_mangle)]
-pub extern "C" fn gettext_c_rating<'a>(
+pub fn gettext_c_rating<'a>(
     head: &'a [usize; 7],
     codes: &'a [u8; 512],
     places: &'a [u16; 1024],
@@ -197,8 +184,7 @@ pub extern "C" fn gettext_c_rating<'a>(
 }
 
 // Whether a record's rule is rated and names forms below k alone.
-#[unsafe(no_mangle)]
-pub extern "C" fn gettext_c_fits<'a>(
+pub fn gettext_c_fits<'a>(
     head: &'a [usize; 7],
     codes: &'a [u8; 512],
     places: &'a [u16; 1024],
@@ -214,8 +200,7 @@ pub extern "C" fn gettext_c_fits<'a>(
 }
 
 // The form that a record's rule names for a count.
-#[unsafe(no_mangle)]
-pub extern "C" fn gettext_c_resolve<'a>(
+pub fn gettext_c_resolve<'a>(
     head: &'a [usize; 7],
     codes: &'a [u8; 512],
     places: &'a [u16; 1024],
@@ -231,8 +216,7 @@ pub extern "C" fn gettext_c_resolve<'a>(
 }
 
 // Writes the text of a record's rule, with brackets round every operator, into the buffer. What it does not need of the buffer stays.
-#[unsafe(no_mangle)]
-pub extern "C" fn gettext_c_text<'a>(
+pub fn gettext_c_text<'a>(
     head: &'a [usize; 7],
     codes: &'a [u8; 512],
     places: &'a [u16; 1024],
@@ -249,8 +233,7 @@ pub extern "C" fn gettext_c_text<'a>(
 
 // How often each form of a record's rule occurs for the counts from a to b: the figures of forms 0 to 15, of those above, and of the counts
 // that meet a zero divisor.
-#[unsafe(no_mangle)]
-pub extern "C" fn gettext_c_span<'a>(
+pub fn gettext_c_span<'a>(
     head: &'a [usize; 7],
     codes: &'a [u8; 512],
     places: &'a [u16; 1024],
@@ -271,24 +254,21 @@ pub extern "C" fn gettext_c_span<'a>(
 }
 
 // Whether a text is UTF-8: 1 or 0.
-#[unsafe(no_mangle)]
-pub extern "C" fn gettext_c_is_utf8(text: &[u8]) -> u32
+pub fn gettext_c_is_utf8(text: &[u8]) -> u32
     ensures { result ≡ truth (utf8 text.now) }
 {
     host::flag_of(text_utf8::is_utf8(text))
 }
 
 // What loading a file costs: the sum of the lengths that its tables state, in the time of a pass over them.
-#[unsafe(no_mangle)]
-pub extern "C" fn gettext_c_cost(file: &[u8]) -> u64
+pub fn gettext_c_cost(file: &[u8]) -> u64
     ensures { result ≡ cost file.now }
 {
     container_cost::cost(file)
 }
 
 // Why `gettext_c_ngettext` of the same answers as it does.
-#[unsafe(no_mangle)]
-pub extern "C" fn gettext_c_why_ngettext<'a>(
+pub fn gettext_c_why_ngettext<'a>(
     file: &'a [u8],
     head: &'a [usize; 7],
     codes: &'a [u8; 512],

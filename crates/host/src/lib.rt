@@ -23,7 +23,7 @@ use rules_text::Writing;
 // file's length, how many entries it has, where the originals' table and the translations' lie, whether (not 0) the highest byte of a word
 // comes first, how many nodes the rule has, and its root. The rule's nodes are arrays beside it: codes, operand places, values.
 #[repr(C)]
-#[derive(Drop)]
+#[derive(Clone, Copy)]
 pub struct Loaded {
     pub number: u32,
     pub side: u32,

@@ -11,7 +11,7 @@ use lib.ListN.{length, get_or, take, drop, length-append, take-append-drop}
 use lib.Seq.{length-take-le, get_or-take}
 use lib.Dec.{leb, eqb}
 use borrow.Author.Tests.{eq-eqb, ne_eqb, eqb-true, eqb-false, leb-true}
-use Rattle.text.specs.Bytes.{within, all, front, place, same}
+use Rattle.text.specs.Bytes.{within, all, place, same}
 use Rattle.text.proofs.Tests.{by_test, and_left, and_right}
 use Rattle.text.proofs.Front.{front_in, front_out, front_length}
 use Rattle.text.proofs.Walk.{rest_at}

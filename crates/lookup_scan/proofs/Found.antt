@@ -1,5 +1,5 @@
 -- An entry whose original begins with so many bytes and a NUL, as the code tells whether it has the key. Assumes nothing.
-use Prim.Native.Nat.{ℕ, ◌+◌, ◌-◌, ◌<◌, ◌≤◌}
+use Prim.Native.Nat.{ℕ, ◌+◌, ◌-◌, ◌≤◌}
 use mathlib.Core.Path.{◌≡◌, refl, sym, ap, ap₂, ◌∙◌}
 use mathlib.Core.Bool.{Bool, true, false, ◌&&◌}
 use mathlib.Core.List.{List}
@@ -21,7 +21,7 @@ use Rattle.lookup_scan.specs.Keys.{is_key}
 use Rattle.lookup_scan.specs.Promise.{hit_if}
 use Rattle.lookup_scan.specs.Private.{Starts, Ending, has_key}
 use Rattle.lookup_scan.specs.declared.Hit.TheVariants as hit
-use Rattle.lookup_scan.proofs.Entries.{Made, made, Keyed, keyed_told}
+use Rattle.lookup_scan.proofs.Entries.{made, Keyed, keyed_told}
 use Rattle.lookup_scan.proofs.Ends.{has_key_lem, key_has}
 use Rattle.lookup_scan.proofs.Scan.{hit_false, told_key}
 

@@ -1,7 +1,7 @@
 -- The last entry with a key: `last_with` is the entry of the greatest index below the count that has it, and Missing exactly if none has.
 -- Assumes nothing.
 use Prim.Native.Nat.{ℕ, zero, suc, ◌<◌, ◌≤◌}
-use mathlib.Core.Path.{◌≡◌, refl, sym, ap, ◌∙◌}
+use mathlib.Core.Path.{◌≡◌, sym, ap, ◌∙◌}
 use mathlib.Core.Bool.{Bool, true, false}
 use mathlib.Core.List.{List}
 use mathlib.Core.Logic.{⊎_elim}
@@ -11,7 +11,6 @@ use Rattle.text.proofs.Tests.{taken, left, by_test}
 use Rattle.container_layout.specs.Mo.{entry}
 use Rattle.container_layout.specs.declared.Tables.{Tables}
 use Rattle.container_layout.specs.declared.Entry.{Entry}
-use Rattle.container_layout.specs.declared.Entry.TheVariants as entries
 use Rattle.lookup_scan.specs.Keys.{is_key, hit_of, last_in, last_with}
 use Rattle.lookup_scan.specs.declared.Hit.{Hit}
 use Rattle.lookup_scan.specs.declared.Hit.TheVariants as hit

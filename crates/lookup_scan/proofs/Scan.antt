@@ -1,5 +1,5 @@
 -- The last entry with a key, as the scan from the last one down meets it. Assumes nothing.
-use Prim.Native.Nat.{ℕ, zero, suc, ◌+◌, ◌-◌, ◌*◌, ◌/◌, ◌<◌, ◌≤◌}
+use Prim.Native.Nat.{ℕ, suc, ◌+◌, ◌-◌, ◌*◌, ◌/◌, ◌≤◌}
 use mathlib.Core.Path.{◌≡◌, refl, sym, ap, ◌∙◌}
 use mathlib.Core.Bool.{Bool, true, false}
 use mathlib.Core.List.{List}
@@ -8,10 +8,9 @@ use lib.ListN.{length, take, drop}
 use borrow.Author.Tests.{leb-false, lt-leb}
 use Rattle.text.specs.Bytes.{same}
 use Rattle.text.proofs.Tests.{never, taken, left, by_test}
-use Rattle.container_layout.specs.Mo.{has_cell, entry}
+use Rattle.container_layout.specs.Mo.{entry}
 use Rattle.container_layout.specs.declared.Entry.{Entry}
 use Rattle.container_layout.specs.declared.Entry.TheVariants as entries
-use Rattle.text.specs.declared.Stretch.TheVariants as stretch
 use Rattle.container_layout.proofs.Cells.{no_cell}
 use Rattle.lookup_scan.specs.Keys.{is_key, hit_of, last_in, last_with}
 use Rattle.lookup_scan.specs.Promise.{hit_if}

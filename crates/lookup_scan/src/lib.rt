@@ -41,6 +41,7 @@ pub fn size_of(size: usize, given: bool, context: &[u8], id: &[u8]) -> Size
 }
 
 // Whether a key begins with a context and byte 4.
+#[tactic(auto, using(crate::proofs::Keys::not_four))]
 fn in_context(key: &[u8], context: &[u8]) -> bool
     ensures { InContext context.now key.now result }
 {

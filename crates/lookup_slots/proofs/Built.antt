@@ -1,8 +1,8 @@
 -- A lookup in built slots answers as the scan does. Assumes nothing.
-use Prim.Native.Nat.{ℕ, zero, suc, ◌+◌, ◌-◌, ◌%◌, ◌<◌, ◌≤◌}
+use Prim.Native.Nat.{ℕ, zero, suc, ◌+◌, ◌%◌, ◌<◌, ◌≤◌}
 use mathlib.Core.Path.{◌≡◌, refl, sym, ap, ◌∙◌}
 use mathlib.Core.Bool.{Bool, true, false}
-use mathlib.Core.List.{List, [], ◌∷◌}
+use mathlib.Core.List.{List}
 use mathlib.Core.Option.{Option, none, some}
 use native.Mathlib.Omega.{arith}
 use native.Mathlib.Nat.{mod-lt}
@@ -14,7 +14,7 @@ use Rattle.text.specs.Bytes.{same}
 use Rattle.text.proofs.Tests.{never, taken, left, by_test}
 use Rattle.text.proofs.Same.{same_true, same_refl}
 use Rattle.lookup_slots.specs.Hash.{hash}
-use Rattle.lookup_slots.specs.Slots.{next, first, has, stops, place, insert, zeros, built, walk, last}
+use Rattle.lookup_slots.specs.Slots.{first, has, stops, place, insert, zeros, built, walk, last}
 use Rattle.lookup_slots.proofs.First.{first_stops, reached, first_kept, first_again}
 use Rattle.lookup_slots.proofs.Free.{free, free_set, free_all, free_some}
 
@@ -181,7 +181,7 @@ module _ (k : ℕ → Option (List ℕ)) where
   }
 
   pub insert_length : (i : ℕ) (o : Option (List ℕ)) (s : List ℕ) → length (insert k i o s) ≡ length s
-  insert_length i (some d) s = length-set s (place k d s) (suc i)
+  insert_length i (some d) s = length-set s _ (suc i)
   insert_length i none s = refl
 
   module _ (m : ℕ) where

@@ -7,7 +7,7 @@ use lib.ListN.{get_or}
 use Rattle.text.specs.Bytes.{bytes, same}
 use Rattle.lookup_slots.specs.Hash.{hash, hash_from}
 use Rattle.lookup_slots.specs.Used.{used}
-use Rattle.lookup_slots.specs.Slots.{first, place, built, walk, last}
+use Rattle.lookup_slots.specs.Slots.{first, place, built, walk}
 
 pub hash_of_nothing : hash [] ≡ 5381
 unfolding hash_from

@@ -1,7 +1,6 @@
 -- The slots used, by the length of the count in bits. Assumes nothing.
-use Prim.Native.Nat.{ℕ, suc, ◌+◌, ◌-◌, ◌*◌, ◌%◌, ◌^◌, ◌<◌, ◌≤◌}
+use Prim.Native.Nat.{ℕ, ◌+◌, ◌-◌, ◌*◌, ◌%◌, ◌^◌, ◌<◌, ◌≤◌}
 use mathlib.Core.Path.{◌≡◌, refl, sym, ap, ◌∙◌}
-use mathlib.Core.Bool.{true, false}
 use native.Mathlib.Omega.{arith}
 use native.Mathlib.Nat.{mod-eq_of_lt}
 use lib.Count.{count_leading_zeros, leading_le, leading_length}
@@ -9,9 +8,8 @@ use lib.Pow.{pow_mono}
 use lib.Dec.{leb}
 use borrow.Author.Tests.{le-leb, lt-leb, leb-true, leb-false}
 use Rattle.text.proofs.Tests.{taken, left, by_test}
-use Rattle.lookup_slots.specs.Used.{used, Smallest}
+use Rattle.lookup_slots.specs.Used.{used}
 use Rattle.lookup_slots.specs.Promise.{room_in}
-use Rattle.lookup_slots.specs.declared.Room.{Room}
 use Rattle.lookup_slots.specs.declared.Room.TheVariants.{Uses, TooFew}
 use Rattle.lookup_slots.proofs.Used.{power_twice, used_smallest, smallest_one}
 
@@ -27,6 +25,14 @@ module _ (count lent : ℕ) where
 pub used_zero : (count : ℕ) → count ≡ 0 → 1 ≡ used count
 unfolding used
 used_zero count e = sym (ap used e)
+
+-- a number that leaves the top bit free has less than 64 bits
+pub bits_below : (n : ℕ) → n < 9223372036854775808 → 64 - count_leading_zeros 64 n < 64
+bits_below n h =
+    let w = leading_length 64 n (omega arith) in
+    by_test (64 - count_leading_zeros 64 n < 64) (leb 64 w.0)
+    (λ e. absurd (omega (arith, w.3, pow_mono (leb-true 64 w.0 e))))
+    (λ e. omega (arith, w.1, leb-false 64 w.0 e))
 
 module _ (count : ℕ) (n : count ≡ 0 → ⊥) (h : count < 4294967296) where
   abbrev zeros : ℕ
@@ -47,11 +53,7 @@ module _ (count : ℕ) (n : count ≡ 0 → ⊥) (h : count < 4294967296) where
   zeros_fit = leading_le 64 (2 * count - 1)
 
   pub bits_fit : 64 - zeros < 64
-  bits_fit =
-      let w = bits_of in
-      by_test (64 - zeros < 64) (leb 64 w.bits)
-      (λ e. absurd (omega (arith, w.under, pow_mono (leb-true 64 w.bits e))))
-      (λ e. omega (arith, w.is, leb-false 64 w.bits e))
+  bits_fit = bits_below (2 * count - 1) (omega arith)
 
   least : (d : ℕ) → 2 * count ≤ 2 ^ d → 2 ^ bits_of.bits ≤ 2 ^ d
   least d l =

@@ -1,6 +1,8 @@
 // Writes how many entries the catalog on standard input has, and the range of its rule.
 #![tactic(auto)]
 
-fn main() {
-    mo_report::run(0);
+use std::io;
+
+fn main(rt: HostRuntime) -> io::Result<()> {
+    mo_report::run(&mut rt.reader(), &mut io::writer(&rt))
 }

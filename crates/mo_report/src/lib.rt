@@ -9,6 +9,8 @@ use container::Options;
 use reading_rule::Reading;
 use refusal::{Outcome, Refusal, Side, Where};
 use rules::Rated;
+use std::io;
+use std::io::{Read, Write};
 
 // The count and the range, or why and where the file is refused.
 #[derive(Clone, Copy)]
@@ -43,83 +45,61 @@ pub fn report(file: &[u8]) -> Said
     }
 }
 
-fn show_rule(rated: Rated) {
+fn show_rule<W: Write>(out: &mut W, rated: Rated) -> io::Result<()> {
     match rated {
-        Rated::Range(lo, hi) => {
-            io::write_all(1, b"rule ");
-            io::print_decimal(1, lo);
-            io::write_all(1, b" ");
-            io::print_decimal(1, hi);
-        }
-        Rated::Unrated => {
-            io::write_all(1, b"rule unrated");
-        }
+        Rated::Range(lo, hi) => writeln!(out, "rule {lo} {hi}"),
+        Rated::Unrated => writeln!(out, "rule unrated"),
         // a record that was loaded holds a tree
-        Rated::NoTree => {
-            io::write_all(1, b"rule unrated");
-        }
+        Rated::NoTree => writeln!(out, "rule unrated"),
     }
-    io::write_all(1, b"\n");
 }
 
-fn show_side(side: Side) {
+fn show_side<W: Write>(out: &mut W, side: Side) -> io::Result<()> {
     match side {
-        Side::Original => {
-            io::write_all(1, b" original");
-        }
-        Side::Translation => {
-            io::write_all(1, b" translation");
-        }
-        Side::Header => {
-            io::write_all(1, b" header");
-        }
-        Side::Rule => {
-            io::write_all(1, b" rule");
-        }
+        Side::Original => write!(out, " original"),
+        Side::Translation => write!(out, " translation"),
+        Side::Header => write!(out, " header"),
+        Side::Rule => write!(out, " rule"),
     }
 }
 
 // The entry's index and the side, as far as they are named.
-fn show_place(place: Where) {
+fn show_place<W: Write>(out: &mut W, place: Where) -> io::Result<()> {
     match place {
-        Where::File => {}
-        Where::Forced => show_side(Side::Rule),
+        Where::File => Ok(()),
+        Where::Forced => show_side(out, Side::Rule),
         Where::Entry(i, side) => {
-            io::write_all(1, b" ");
-            io::print_decimal(1, i as u64);
-            show_side(side);
+            write!(out, " {i}")?;
+            show_side(out, side)
         }
     }
 }
 
-fn show_refusal(refusal: Refusal) {
-    io::write_all(1, b"refused ");
-    io::print_decimal(1, refusal::number_of(refusal::error_of(refusal)) as u64);
-    show_place(refusal::place_of(refusal));
-    io::write_all(1, b"\n");
+fn show_refusal<W: Write>(out: &mut W, refusal: Refusal) -> io::Result<()> {
+    let number = refusal::number_of(refusal::error_of(refusal));
+    write!(out, "refused {number}")?;
+    show_place(out, refusal::place_of(refusal))?;
+    writeln!(out)
 }
 
-fn show(said: Said) {
+fn show<W: Write>(out: &mut W, said: Said) -> io::Result<()> {
     match said {
         Said::Entries(count, rated) => {
-            io::write_all(1, b"entries ");
-            io::print_decimal(1, count as u64);
-            io::write_all(1, b"\n");
-            show_rule(rated);
+            writeln!(out, "entries {count}")?;
+            show_rule(out, rated)
         }
-        Said::Refused(refusal) => show_refusal(refusal),
+        Said::Refused(refusal) => show_refusal(out, refusal),
     }
 }
 
-// Reads a file of at most 65,536 bytes from a descriptor, and prints what is said of it. What a program reads and writes no contract says.
-pub fn run(from: i32) {
-    let mut buffer = io::large_buffer();
-    let n = io::read_full(from, &mut buffer);
+// Reads a file of at most 65,536 bytes, and writes what is said of it. What a program reads and writes no contract says.
+pub fn run<R: Read, W: Write>(from: &mut R, out: &mut W) -> io::Result<()> {
+    let mut buffer = [0u8; 65536];
+    let n = stream::read_full(from, &mut buffer)?;
     let mut more = [0u8; 1];
-    let left = io::read_full(from, &mut more);
+    let left = stream::read_full(from, &mut more)?;
     if left != 0 {
-        io::write_all(1, b"too large\n");
-        return;
+        return writeln!(out, "too large");
     }
-    show(report(&buffer[..n]));
+    show(out, report(&buffer[..n]))
 }

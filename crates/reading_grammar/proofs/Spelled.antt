@@ -13,7 +13,7 @@ use borrow.Author.Tests.{eqb-true}
 use Rattle.rules.specs.Tree.{Op, Tree, tree}
 use Rattle.reading_grammar.specs.Grammar.{Token, sign, number}
 use Rattle.reading_grammar.specs.Reading.{standard}
-use Rattle.reading_grammar.specs.Tokens.{tokens, lex, start, digits, second, begin, twos, ones, find_two, two, find_one, digit, blank}
+use Rattle.reading_grammar.specs.Tokens.{tokens, lex, digits, second, twos, ones, find_two, two, find_one, digit, blank}
 use Rattle.reading_grammar.specs.Spells.{decimal, Digits, none_left, one_more, Ends, at_end, at_other, Spells, nothing, skip, run, pair, single, Means}
 use Rattle.reading_grammar.proofs.Choice.{taken_if, left_if, both}
 use Rattle.reading_grammar.proofs.Complete.{agrees}

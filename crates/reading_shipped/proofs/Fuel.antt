@@ -13,7 +13,7 @@ use Rattle.text_trim.specs.Trim.{trim, six}
 use Rattle.text_trim.proofs.Trimming.{trim_le}
 use Rattle.reading_scan.specs.Scan.{index_of, end_from}
 use Rattle.reading_levels.specs.Levels.{Kind, binary, ternary, Row, rows, found}
-use Rattle.reading_shipped.specs.Shipped.{two, one, read_not, choose, cut, level, inside, parens, parse_in, shipped, bang, colon}
+use Rattle.reading_shipped.specs.Shipped.{one, read_not, choose, cut, level, inside, parens, parse_in, shipped, bang, colon}
 
 pub inside_length : (s : List ℕ) → length (inside s) ≡ length s - 2
 inside_length s = simp (length-take, length-drop) (omega arith)

@@ -8,7 +8,7 @@ use native.Mathlib.Omega.{arith}
 use lib.ListN.{length, get_or, take, drop, length-take, length-drop}
 use lib.Dec.{eqb}
 use borrow.Author.Tests.{eq-eqb, ne_eqb, lt-ltb, le-ltb}
-use Rattle.rules.specs.Tree.{var, Op, cmp, and, or, rem, eq, ne, ge, le, gt, lt, Reading, tree, none}
+use Rattle.rules.specs.Tree.{var, Op, Reading, tree, none}
 use Rattle.rules.specs.Pool.{Pool, ternary_node}
 use Rattle.rules.specs.Store.{node_code}
 use Rattle.rules.proofs.Operators.{code_in}

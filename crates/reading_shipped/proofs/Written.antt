@@ -2,7 +2,7 @@
 use Prim.Native.Nat.{ℕ, ◌+◌, ◌-◌, ◌<◌, ◌≤◌}
 use mathlib.Core.Path.{◌≡◌, refl, ap, ◌∙◌}
 use native.Mathlib.Omega.{arith}
-use Rattle.rules.specs.Tree.{Tree, var, int, nay, bin, cond, Op, and, Reading, tree, none}
+use Rattle.rules.specs.Tree.{Tree, var, int, nay, bin, cond, Op, Reading, tree, none}
 use Rattle.rules.specs.Pool.{Pool, nay_node, ternary_node}
 use Rattle.rules.specs.Store.{size, store, push, node_code}
 use Rattle.rules.specs.declared.Nodes.{Nodes}

@@ -1,7 +1,7 @@
 -- The Shipped reading: `Ast::parse` of the Rust's plurals.rs, transcribed. SPEC 6.
 -- Each definition names the Rust's function; `parse` stands for the reading of a piece.
 use Rattle.std.specs.Prelude.{ℕ, zero, suc, ◌+◌, ◌-◌, true, false, List, [], ◌∷◌, length, get_or, take, drop, ltb, eqb}
-use Rattle.rules.specs.Tree.{Tree, var, int, nay, bin, cond, Op, Reading, tree, none}
+use Rattle.rules.specs.Tree.{var, int, nay, bin, cond, Op, Reading, tree, none}
 use Rattle.text_trim.specs.Trim.{trim, six}
 use Rattle.text_digits.specs.declared.Number.{Number}
 use Rattle.text_digits.specs.declared.Number.TheVariants.{Whole, NoNumber}

@@ -1,7 +1,7 @@
 -- The steps of the token reader, over plain values: each is one step of the definition of a text's tokens.
 use Prim.Native.Nat.{ℕ, suc, ◌+◌, ◌-◌, ◌*◌, ◌<◌, ◌≤◌, ◌^◌}
 use mathlib.Core.Path.{◌≡◌, refl, sym, ap, ◌∙◌}
-use mathlib.Core.Bool.{Bool, true, false, and-false, false≢true}
+use mathlib.Core.Bool.{Bool, true, false, false≢true}
 use mathlib.Core.List.{List, [], ◌∷◌}
 use mathlib.Core.Option.{Option, none, some}
 use native.Mathlib.Omega.{arith}
@@ -9,7 +9,7 @@ use native.Mathlib.Numerals.{add-one}
 use lib.ListN.{length, drop, get_or, length-drop, drop_of_length-le, get_or-eq_default}
 use lib.Seq.{drop-cons, drop-drop, get_or-drop}
 use lib.Dec.{eqb, leb}
-use borrow.Author.Tests.{eq-eqb, ne_eqb, le-leb, lt-leb, leb-true, leb-false, lt-ltb, le-ltb}
+use borrow.Author.Tests.{eq-eqb, ne_eqb, leb-true, leb-false, lt-ltb, le-ltb}
 use Rattle.text.specs.Bytes.{front}
 use Rattle.text.proofs.Tests.{by_test}
 use Rattle.text.proofs.Front.{front_in, front_out, front_least, counted_end, counted_stop, counted_more}
@@ -27,7 +27,7 @@ use Rattle.reading_tokens.specs.declared.Next.TheVariants.{End, Sign, Huge, Mark
 use Rattle.reading_tokens.specs.declared.After.TheVariants.{At, Other}
 use Rattle.reading_tokens.specs.Scan.{skipped, width, after, first, next, passed}
 use Rattle.reading_tokens.specs.Private.{code_of, sign_of, pair_from, single_from, ran}
-use Rattle.reading_grammar.proofs.Choice.{taken_if, left_if, both}
+use Rattle.reading_grammar.proofs.Choice.{taken_if, left_if}
 use Rattle.reading_tokens.proofs.Rows.{past_end}
 
 -- the byte after those in front that pass a test does not

@@ -1,6 +1,6 @@
 -- The token that stands next: the first of the tokens of the text from a position on (grammar's specs/Tokens.antt; document
 -- 01, "Two readings of a rule"), and the position after it.
-use Rattle.std.specs.Prelude.{ℕ, suc, ◌+◌, ◌<◌, ◌≤◌, ◌^◌, ◌≡◌, true, false, List, [], ◌∷◌, drop, ltb, eqb}
+use Rattle.std.specs.Prelude.{ℕ, suc, ◌+◌, ◌^◌, ◌≡◌, true, false, List, [], ◌∷◌, drop, ltb, eqb}
 use Rattle.std.proofs.Math.Option.{none, some}
 use Rattle.text.specs.Bytes.{front}
 use Rattle.rules.specs.Tree.{Op}

@@ -1,8 +1,8 @@
 -- Rules and what they are packed to, computed from the definition: codes, fields and values of the nodes. Assumes nothing.
-use Prim.Native.Nat.{ℕ, zero, suc, ◌+◌}
+use Prim.Native.Nat.{ℕ, ◌+◌}
 use mathlib.Core.Path.{◌≡◌, refl}
 use mathlib.Core.List.{List, [], ◌∷◌, map}
-use Rattle.rules.specs.Tree.{Tree, var, int, nay, bin, cond, cmp, and, or, rem, eq, ne, ge, le}
+use Rattle.rules.specs.Tree.{Tree, var, int, nay, bin, cond, cmp, and, rem, eq, ne}
 use Rattle.rules.specs.Operator.{op_code}
 use Rattle.rules.specs.Pool.{n_op, rest_op, nay_node, pick_node, value_op, pair_op, choice_node}
 use Rattle.rules.specs.Pack.{Packed, leaf, one, two, three, number_of, is_count, is_rem, left_of, pack}

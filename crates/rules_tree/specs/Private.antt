@@ -1,5 +1,5 @@
 -- What the functions of the tree test promise one another: SPEC 8, place by place.
-use Rattle.std.specs.Prelude.{ℕ, ◌+◌, ◌<◌, ◌≤◌, ◌≡◌, Bool, true, false, not, ◌&&◌, List, ◌++◌, length, get_or, set, ltb, eqb}
+use Rattle.std.specs.Prelude.{ℕ, ◌<◌, ◌≤◌, ◌≡◌, Bool, true, false, not, ◌&&◌, List, ◌++◌, length, get_or, set, ltb, eqb}
 use Rattle.rules.specs.Pool.{Pool, code, known, operands, all_below, member, distinct, used, shaped}
 
 -- no place is marked

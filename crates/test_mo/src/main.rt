@@ -2,31 +2,30 @@
 // and a refused one at least for each row of SPEC 2.1 that it can give.
 #![tactic(auto)]
 
-fn show(name: &[u8]) {
-    io::write_all(1, name);
-    io::write_all(1, b":\n");
-    let file = os::open_read(name);
-    if file < 0 {
-        io::write_all(1, b"missing\n");
-        return;
+use std::rt::Files;
+use std::{fs, io};
+
+fn show(rt: &(impl Files + Print), name: &str) -> io::Result<()> {
+    println!(rt; "{name}:")?;
+    match fs::open(rt, name) {
+        Ok(mut file) => mo_report::run(&mut file, &mut io::writer(rt)),
+        Err(_) => println!(rt; "missing"),
     }
-    mo_report::run(file);
-    libc::close(file);
 }
 
-fn main() {
-    show(b"empty.mo");
-    show(b"full.mo");
-    show(b"large.mo");
-    show(b"unrated.mo");
-    show(b"magic.mo");
-    show(b"offset.mo");
-    show(b"original.mo");
-    show(b"misplaced.mo");
-    show(b"translation.mo");
-    show(b"count.mo");
-    show(b"colon.mo");
-    show(b"refused.mo");
-    show(b"rule.mo");
-    show(b"long.mo");
+fn main(rt: HostRuntime) -> io::Result<()> {
+    show(&rt, "empty.mo")?;
+    show(&rt, "full.mo")?;
+    show(&rt, "large.mo")?;
+    show(&rt, "unrated.mo")?;
+    show(&rt, "magic.mo")?;
+    show(&rt, "offset.mo")?;
+    show(&rt, "original.mo")?;
+    show(&rt, "misplaced.mo")?;
+    show(&rt, "translation.mo")?;
+    show(&rt, "count.mo")?;
+    show(&rt, "colon.mo")?;
+    show(&rt, "refused.mo")?;
+    show(&rt, "rule.mo")?;
+    show(&rt, "long.mo")
 }

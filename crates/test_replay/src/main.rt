@@ -10,9 +10,11 @@ use lookup::{Reason, Text};
 use reading_rule::Reading;
 use refusal::Where;
 use rules::Resolved;
+use std::io;
+use std::io::{Read, Write};
 
 // Cases so far, and how many agree, by origin.
-#[derive(Drop)]
+#[derive(Clone, Copy)]
 struct Tally {
     total: u64,
     by_crate: u64,
@@ -307,10 +309,8 @@ fn case_agrees(told: &[u8]) -> bool {
     false
 }
 
-fn show_case(k: u64) {
-    io::write_all(1, b"differs: case ");
-    io::print_decimal(1, k);
-    io::write_all(1, b"\n");
+fn show_case<W: Write>(out: &mut W, k: u64) -> io::Result<()> {
+    writeln!(out, "differs: case {k}")
 }
 
 // The origins are the letters c, d and s.
@@ -348,62 +348,58 @@ fn counted(t: Tally, origin: u8, yes: bool) -> Tally {
     }
 }
 
-fn replay_case(t: Tally, told: &[u8]) -> Tally {
+fn replay_case<W: Write>(out: &mut W, t: Tally, told: &[u8]) -> io::Result<Tally> {
     let yes = case_agrees(told);
     if !yes {
-        show_case(t.total);
+        show_case(out, t.total)?;
     }
-    counted(t, byte(told, 1), yes)
+    Ok(counted(t, byte(told, 1), yes))
 }
 
 // The cases of one part of the list; a length of 0 ends it.
-fn replay(t: Tally, part: &[u8]) -> Tally {
+fn replay<W: Write>(out: &mut W, t: Tally, part: &[u8]) -> io::Result<Tally> {
     let n = part.len();
     let mut tally = t;
     let mut at = 0;
     while at < n {
         let len = two(from(part, at));
         if len == 0 {
-            return tally;
+            return Ok(tally);
         }
         if n - at < 2 + len {
-            return tally;
+            return Ok(tally);
         }
-        tally = replay_case(tally, first(from(part, at + 2), len));
+        tally = replay_case(out, tally, first(from(part, at + 2), len))?;
         at += 2 + len;
     }
-    tally
+    Ok(tally)
 }
 
 // Reads the next part, where there is one.
-fn replay_some(t: Tally) -> Tally {
-    let mut buffer = io::large_buffer();
-    let n = io::read_full(0, &mut buffer);
-    replay(t, &buffer[..n])
+fn replay_some<R: Read, W: Write>(list: &mut R, out: &mut W, t: Tally) -> io::Result<Tally> {
+    let mut buffer = [0u8; 65536];
+    let n = stream::read_full(list, &mut buffer)?;
+    replay(out, t, &buffer[..n])
 }
 
-fn show(name: &[u8], agree: u64, all: u64) {
-    io::write_all(1, name);
-    io::write_all(1, b": agree ");
-    io::print_decimal(1, agree);
-    io::write_all(1, b" of ");
-    io::print_decimal(1, all);
-    io::write_all(1, b"\n");
+fn show<W: Write>(out: &mut W, name: &str, agree: u64, all: u64) -> io::Result<()> {
+    writeln!(out, "{name}: agree {agree} of {all}")
 }
 
 // The list has at most eight parts.
-fn replay_all(t: Tally) -> Tally {
+fn replay_all<R: Read, W: Write>(list: &mut R, out: &mut W, t: Tally) -> io::Result<Tally> {
     let mut tally = t;
     let mut left = 8u64;
     while left > 0 {
-        tally = replay_some(tally);
+        tally = replay_some(list, out, tally)?;
         left -= 1;
     }
-    tally
+    Ok(tally)
 }
 
-fn main() {
-    let t = replay_all(Tally {
+fn main(rt: HostRuntime) -> io::Result<()> {
+    let out = &mut io::writer(&rt);
+    let none = Tally {
         total: 0,
         by_crate: 0,
         by_crate_agree: 0,
@@ -411,8 +407,9 @@ fn main() {
         by_document_agree: 0,
         standard: 0,
         standard_agree: 0,
-    });
-    show(b"the crate", t.by_crate_agree, t.by_crate);
-    show(b"document 01", t.by_document_agree, t.by_document);
-    show(b"Standard", t.standard_agree, t.standard);
+    };
+    let t = replay_all(&mut rt.reader(), out, none)?;
+    show(out, "the crate", t.by_crate_agree, t.by_crate)?;
+    show(out, "document 01", t.by_document_agree, t.by_document)?;
+    show(out, "Standard", t.standard_agree, t.standard)
 }

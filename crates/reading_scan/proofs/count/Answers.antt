@@ -1,6 +1,5 @@
 -- `count`: by the test.
 use borrow.Author.Tests.{eq-eqb, ne_eqb}
-use borrow.Author.Rules.{rules}
 use Rattle.reading_scan.specs.Scan.{counted}
 use Rattle.reading_scan.proofs.count.Goals as goal
 

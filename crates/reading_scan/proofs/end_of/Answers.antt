@@ -1,9 +1,6 @@
-use Prim.Native.Nat.{◌≤◌, ◌+◌, ◌-◌}
-use mathlib.Core.Path.{◌≡◌, refl}
-use lib.ListN.{length, drop, get_or}
-use borrow.Author.Rules.{rules}
+use mathlib.Core.Path.{refl}
+use lib.ListN.{get_or}
 use native.Mathlib.Omega.{arith}
-use Rattle.reading_scan.specs.Scan.{end_from}
 use Rattle.reading_scan.proofs.Scanned.{end_on, end_end, deeper_le, further_le}
 use Rattle.reading_scan.proofs.end_of.Goals as goal
 

@@ -1,12 +1,9 @@
 -- `end_of`: the fold over the whole is the fold over the rest, with level and index as they are (Scanned). The measure is the rest's
 -- length.
 use Prim.Native.Nat.{◌≤◌, ◌+◌, ◌-◌}
-use mathlib.Core.Path.{◌≡◌, refl}
-use lib.ListN.{length, drop, get_or}
-use borrow.Author.Rules.{rules}
-use native.Mathlib.Omega.{arith}
+use mathlib.Core.Path.{◌≡◌}
+use lib.ListN.{length, drop}
 use Rattle.reading_scan.specs.Scan.{end_from}
-use Rattle.reading_scan.proofs.Scanned.{end_on, end_end, deeper_le, further_le}
 use Rattle.reading_scan.proofs.end_of.Given as goal
 
 abbrev pub invariant-loop-i : goal.invariant-loop-i

@@ -2,7 +2,6 @@
 use mathlib.Core.Path.{sym}
 use lib.ListN.{get_or-eq_default}
 use native.Mathlib.Omega.{arith}
-use borrow.Author.Rules.{rules}
 use Rattle.reading_scan.proofs.first_of.Goals as goal
 
 pub returns-then-s-eq0 : goal.returns-then-s-eq0

@@ -1,9 +1,6 @@
-use Prim.Native.Nat.{◌≤◌, ◌-◌}
-use mathlib.Core.Path.{◌≡◌, sym, ◌∙◌}
-use lib.ListN.{length, drop, get_or}
-use borrow.Author.Rules.{rules}
+use mathlib.Core.Path.{sym, ◌∙◌}
+use lib.ListN.{get_or}
 use native.Mathlib.Omega.{arith}
-use Rattle.reading_scan.specs.Scan.{index_of, index_from}
 use Rattle.reading_scan.proofs.Scanned.{index_zero, index_on, index_here, index_end, counted_le, matched_le}
 use Rattle.reading_scan.proofs.index_of.Goals as goal
 

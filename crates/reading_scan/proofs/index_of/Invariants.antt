@@ -1,12 +1,9 @@
 -- `index_of`: what is sought in the whole text is sought in the rest of it, with the counters as they are (Scanned). The counters
 -- stay below the bytes passed. The measure is the rest's length.
 use Prim.Native.Nat.{◌≤◌, ◌-◌}
-use mathlib.Core.Path.{◌≡◌, sym, ◌∙◌}
-use lib.ListN.{length, drop, get_or}
-use borrow.Author.Rules.{rules}
-use native.Mathlib.Omega.{arith}
+use mathlib.Core.Path.{◌≡◌}
+use lib.ListN.{length, drop}
 use Rattle.reading_scan.specs.Scan.{index_of, index_from}
-use Rattle.reading_scan.proofs.Scanned.{index_zero, index_on, index_here, index_end, counted_le, matched_le}
 use Rattle.reading_scan.proofs.index_of.Given as goal
 
 abbrev pub invariant-loop-i : goal.invariant-loop-i

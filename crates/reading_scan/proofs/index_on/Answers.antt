@@ -1,7 +1,6 @@
 -- `index_on`: by the tests.
 use mathlib.Core.Path.{◌∙◌}
 use borrow.Author.Tests.{lt-ltb, le-ltb}
-use borrow.Author.Rules.{rules}
 use Rattle.reading_scan.specs.Scan.{further}
 use Rattle.reading_scan.proofs.index_on.Goals as goal
 

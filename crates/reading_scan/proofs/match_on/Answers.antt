@@ -1,6 +1,5 @@
 -- `match_on`: by the tests.
 use borrow.Author.Tests.{eq-eqb, ne_eqb, lt-ltb, le-ltb}
-use borrow.Author.Rules.{rules}
 use Rattle.reading_scan.specs.Private.{matched}
 use Rattle.reading_scan.proofs.match_on.Goals as goal
 

@@ -1,0 +1,6 @@
+-- `shipped`: `parse` at place 0.
+use Rattle.reading_shipped.proofs.Filled.{from_zero}
+use Rattle.reading_shipped.proofs.shipped.Goals as goal
+
+pub returns : goal.returns
+returns c = from_zero _ _ c.parse.ensures
