@@ -2,11 +2,11 @@
 -- fall. Assumes nothing.
 use Prim.Native.Nat.{ℕ}
 use mathlib.Core.Path.{◌≡◌, refl}
-use mathlib.Core.Bool.{Bool, true, false}
+use mathlib.Core.Bool.{true, false}
 use mathlib.Core.List.{List, [], ◌∷◌, map}
 use Rattle.rules.specs.Tree.{Tree, var, int, bin, rem}
 use Rattle.rules.specs.Value.{eval_tree, binary}
-use Rattle.rules_span.specs.Span.{line_of, bump, tallied, is_span}
+use Rattle.rules_span.specs.Span.{tallied, is_span}
 
 -- a rule, the first count, how many; the figures
 abbrev rows : List ((Tree × ℕ × ℕ) × List ℕ)

@@ -1,12 +1,12 @@
 -- The figures of a span: each line has those counts that fall on it, and they add up to the counts. Assumes nothing.
 use Prim.Native.Nat.{ℕ, zero, suc, ◌+◌, ◌-◌, ◌<◌, ◌≤◌, ◌^◌}
 use mathlib.Core.Path.{◌≡◌, refl, sym, ap, ◌∙◌}
-use mathlib.Core.Bool.{Bool, true, false, ◌&&◌}
+use mathlib.Core.Bool.{Bool, true, false}
 use mathlib.Core.List.{List, [], ◌∷◌}
 use native.Mathlib.Omega.{arith}
-use lib.ListN.{length, get_or, set, length-set, length-replicate, get_or-replicate}
+use lib.ListN.{length, get_or, length-set, get_or-replicate}
 use lib.Seq.{get_or-set_same, get_or-set_other}
-use lib.Dec.{ltb, leb, eqb}
+use lib.Dec.{ltb, eqb}
 use borrow.Author.Tests.{ltb-true, ltb-false, lt-ltb, le-ltb, le-leb, lt-leb, eqb-true, eqb-false}
 use Rattle.text.proofs.Tests.{taken, left}
 use Rattle.rules.specs.declared.Value.{Value}
@@ -14,8 +14,7 @@ use Rattle.rules.specs.declared.Value.TheVariants as value
 use Rattle.rules.specs.Tree.{Tree}
 use Rattle.rules.specs.Value.{eval_tree, truth}
 use Rattle.rules.specs.Pool.{Pool, tree_of, is_tree}
-use Rattle.rules_span.specs.Span.{line_of, no_figures, bump, tallied, falls, total, is_span, answer, tally_of, figures_in, figures_of}
-use Rattle.rules_span.specs.declared.Counting.{Counting}
+use Rattle.rules_span.specs.Span.{line_of, no_figures, bump, tallied, falls, total, is_span, tally_of, figures_of}
 use Rattle.rules_span.specs.declared.Counting.TheVariants.{Counted, BadSpan, NoTree}
 
 -- a value's line

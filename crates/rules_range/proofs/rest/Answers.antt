@@ -1,0 +1,13 @@
+-- `rules_range::rest` meets its contract: % on n, and on the integer.
+use mathlib.Core.Path.{refl, ap, ◌∙◌}
+use native.Mathlib.Omega.{arith}
+use Rattle.rules.specs.Tree.{rem}
+use Rattle.rules.specs.Operator.{op_of, op_at}
+use Rattle.rules.specs.Range.{full_range, bin_range}
+use Rattle.rules.specs.declared.Rating.{Rating}
+use Rattle.rules_range.proofs.Ranges.{range_of_lem}
+use Rattle.rules_range.proofs.rest.Goals as goal
+
+pub returns : goal.returns
+unfolding op_of op_at
+returns c = c.binary.ensures.is rem refl ∙ ap (λ (y : Rating). bin_range rem full_range y) (range_of_lem c.args.m c.args.m (omega arith))
