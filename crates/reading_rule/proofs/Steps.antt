@@ -74,16 +74,16 @@ none_made place tree.none a = refl
 
 -- a tree was found in m bytes: k is its size, and Q the arrays
 pub record Found (o : tree.Reading) (m k : ℕ) (P Q : Pool) : Type 0 where
-  pub is_tree_lem : Tree
-  pub is : o ≡ tree.tree is_tree_lem
-  pub count : k ≡ size is_tree_lem
-  pub stored : Q ≡ store is_tree_lem 0 P
-  pub few : size is_tree_lem ≤ m
+  pub is_tree : Tree
+  pub is : o ≡ tree.tree is_tree
+  pub count : k ≡ size is_tree
+  pub stored : Q ≡ store is_tree 0 P
+  pub few : size is_tree ≤ m
 
 pub found : (o : tree.Reading) {s : List ℕ} {P Q : Pool} {k : ℕ} → Answered o s P Q (Read k) → Found o (length s) k P Q
 found (tree.tree t) {k = k} a =
     let e : Read k ≡ Read (size t) = a.read.answer in
-    record { is_tree_lem = t; is = refl; count = cc; stored = a.read.stored; few = a.read.fits }
+    record { is_tree = t; is = refl; count = cc; stored = a.read.stored; few = a.read.fits }
 found tree.none {k = k} a =
     let e : Read k ≡ NoReading = a.read in
     let z : ◌≡◌ {A = ℕ} 0 1 = cc in
@@ -116,14 +116,6 @@ module _ {o : tree.Reading} {m k : ℕ} {P Q : Pool} (f : Found o m k P Q) (b : 
       let i : made place o ≡ rule f.is_tree = rw f.is in
       parses i (record { outcome = refl; nodes = d ∙ ap packed_size tree_in_lem; stored = e ∙ ap packed tree_in_lem })
 
-not-false : (b : Bool) → not b ≡ true → b ≡ false
-not-false true e = sym e
-not-false false e = refl
-
-not-true : (b : Bool) → not b ≡ false → b ≡ true
-not-true true e = refl
-not-true false e = sym e
-
 -- the tests, of the trimmed text t: a says whether all its bytes are below 128
 module _ (place : Where) (reading : Reading) (s : List ℕ) {t : List ℕ} (e : t ≡ trim white_space s) where
   of_trimmed : parsed place reading s ≡ tested place reading t
@@ -134,10 +126,10 @@ module _ (place : Where) (reading : Reading) (s : List ℕ) {t : List ℕ} (e : 
   unfolding tested
   long_refused h = of_trimmed ∙ rw (tested, h)
 
-  pub foreign_refused : ltb 512 (length t) ≡ false → {a : Bool} → a ≡ all is_ascii t → not a ≡ true → parsed place reading s ≡ norule (at place PluralParsing)
+  pub foreign_refused : ltb 512 (length t) ≡ false → {a : Bool} → a ≡ all is_ascii t → a ≡ false → parsed place reading s ≡ norule (at place PluralParsing)
   unfolding tested
-  foreign_refused h {a} i f = of_trimmed ∙ rw (tested, h, sym i ∙ not-false a f)
+  foreign_refused h {a} i f = of_trimmed ∙ rw (tested, h, sym i ∙ f)
 
-  pub passed : ltb 512 (length t) ≡ false → {a : Bool} → a ≡ all is_ascii t → not a ≡ false → parsed place reading s ≡ made place (read_as reading t)
+  pub passed : ltb 512 (length t) ≡ false → {a : Bool} → a ≡ all is_ascii t → a ≡ true → parsed place reading s ≡ made place (read_as reading t)
   unfolding tested
-  passed h {a} i f = of_trimmed ∙ rw (tested, h, sym i ∙ not-true a f)
+  passed h {a} i f = of_trimmed ∙ rw (tested, h, sym i ∙ f)
