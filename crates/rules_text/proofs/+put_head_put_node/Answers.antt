@@ -1,12 +1,11 @@
 use native.Mathlib.Omega.{arith}
-use borrow.Author.Rules.{rules}
-use Rattle.rules.specs.Pool.{Pool, pool, ternary_node}
+use Rattle.rules.specs.Pool.{pool, ternary_node}
 use Rattle.rules.proofs.Operators.{named}
 use Rattle.rules.proofs.Trees.{first_in, second_in}
 use Rattle.rules_tree.proofs.Runs.{low, down_to, leaf_first}
 use Rattle.rules_text.proofs.Texts.{head_not, head_first, head_sign, head_value, head_node}
-use Rattle.rules_text.proofs.Heads.{PutsHeads, room, no_heads_put, head_put, leaf_put, Grows, no_growth, growth, whole_put, at_leaf, falls_to}
-use Prim.Native.Nat.{ℕ, ◌<◌, ◌≤◌, ◌+◌, ◌-◌, ◌*◌}
+use Rattle.rules_text.proofs.Heads.{room, no_heads_put, head_put, leaf_put, no_growth, growth, whole_put, at_leaf, falls_to}
+use Prim.Native.Nat.{◌+◌}
 use Rattle.rules_text.proofs.+put_head_put_node.Goals as goal
 
 pub put_head-returns-then-code-eq-NOT : goal.put_head-returns-then-code-eq-NOT

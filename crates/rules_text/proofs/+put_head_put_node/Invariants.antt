@@ -1,14 +1,8 @@
 -- `rules_text::put_node` and `put_head` meet their contracts: a first or a second operand lies below its parent, so the place is the measure. The first
 -- loop's invariant: what stands before the node at q was put; the second's: that, and the text of this node.
-use native.Mathlib.Omega.{arith}
-use borrow.Author.Rules.{rules}
-use Rattle.rules.specs.Pool.{Pool, pool, ternary_node}
-use Rattle.rules.proofs.Operators.{named}
-use Rattle.rules.proofs.Trees.{first_in, second_in}
-use Rattle.rules_tree.proofs.Runs.{low, down_to, leaf_first}
-use Rattle.rules_text.proofs.Texts.{head_not, head_first, head_sign, head_value, head_node}
-use Rattle.rules_text.proofs.Heads.{PutsHeads, room, no_heads_put, head_put, leaf_put, Grows, no_growth, growth, whole_put, at_leaf, falls_to}
-use Prim.Native.Nat.{ℕ, ◌<◌, ◌≤◌, ◌+◌, ◌-◌, ◌*◌}
+use Rattle.rules.specs.Pool.{pool}
+use Rattle.rules_text.proofs.Heads.{PutsHeads, Grows}
+use Prim.Native.Nat.{◌≤◌, ◌+◌, ◌-◌, ◌*◌}
 use Rattle.rules_text.proofs.+put_head_put_node.Given as goal
 
 abbrev pub decreases-put_head : goal.decreases-put_head

@@ -1,9 +1,7 @@
 use mathlib.Core.Path.{refl}
 use native.Mathlib.Omega.{arith}
-use borrow.Author.Rules.{rules}
 use Rattle.rules_text.proofs.Decimal.{split}
 use Rattle.rules_text.proofs.Laid.{number_short, number_long}
-use Prim.Native.Nat.{ℕ, ◌<◌}
 use Rattle.rules_text.proofs.+put_number.Goals as goal
 
 pub returns-then-v-lt10 : goal.returns-then-v-lt10

@@ -1,11 +1,7 @@
-use Prim.Native.Nat.{◌≤◌, ◌-◌}
-use mathlib.Core.Path.{◌≡◌, refl}
+use mathlib.Core.Path.{refl}
 use native.Mathlib.Omega.{arith}
-use lib.ListN.{length}
-use lib.Seq.{paste, paste-zero}
-use borrow.Author.Rules.{rules}
+use lib.Seq.{paste-zero}
 use Rattle.rules_text.proofs.Laid.{copied, copied_all}
-use Rattle.rules_text.proofs.copy.Lts as lts
 use Rattle.rules_text.proofs.copy.Goals as goal
 
 pub loop-i-init : goal.loop-i-init

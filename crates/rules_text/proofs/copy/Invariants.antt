@@ -1,12 +1,8 @@
 -- `rules_text::copy` meets its contract. The loop's invariant: the bytes before i are the text's, and the others what they were.
 use Prim.Native.Nat.{◌≤◌, ◌-◌}
-use mathlib.Core.Path.{◌≡◌, refl}
-use native.Mathlib.Omega.{arith}
+use mathlib.Core.Path.{◌≡◌}
 use lib.ListN.{length}
-use lib.Seq.{paste, paste-zero}
-use borrow.Author.Rules.{rules}
-use Rattle.rules_text.proofs.Laid.{copied, copied_all}
-use Rattle.rules_text.proofs.copy.Lts as lts
+use lib.Seq.{paste}
 use Rattle.rules_text.proofs.copy.Given as goal
 
 abbrev pub invariant-loop-i : goal.invariant-loop-i

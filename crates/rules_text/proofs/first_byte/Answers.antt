@@ -1,11 +1,10 @@
 -- `rules_text::first_byte` meets its contract: each arm is a row of the table, and past the last row there is 0.
 use mathlib.Core.Path.{sym}
+use native.Mathlib.Omega.{arith}
 use lib.ListN.{get_or-eq_default}
 use Rattle.rules_text.proofs.Signs.{past_last}
 use Rattle.rules_text.specs.Private.{firsts}
-use borrow.Author.Rules.{rules}
-use Rattle.rules_text.proofs.first_byte.Lts as lts
 use Rattle.rules_text.proofs.first_byte.Goals as goal
 
 pub returns-in_default : goal.returns-in_default
-returns-in_default c = let r = c.in_default.in_default-own.rest in sym (get_or-eq_default firsts 0 {n = c.args.op} (past_last c.args.op r.0.0.0.0.0.0.0.0.0.0.0.0.1 r.0.0.0.0.0.0.0.0.0.0.0.1 r.0.0.0.0.0.0.0.0.0.0.1 r.0.0.0.0.0.0.0.0.0.1 r.0.0.0.0.0.0.0.0.1 r.0.0.0.0.0.0.0.1 r.0.0.0.0.0.0.1 r.0.0.0.0.0.1 r.0.0.0.0.1 r.0.0.0.1 r.0.0.1 r.0.1 r.1))
+returns-in_default c = sym (get_or-eq_default firsts 0 {n = c.args.op} (past_last c.args.op (omega arith) (omega arith) (omega arith) (omega arith) (omega arith) (omega arith) (omega arith) (omega arith) (omega arith) (omega arith) (omega arith) (omega arith) (omega arith)))

@@ -1,7 +1,5 @@
 -- `rules_text::put_byte` meets its contract: there is room for it, or not.
 use Rattle.rules_text.proofs.Laid.{byte_in, byte_out}
-use borrow.Author.Rules.{rules}
-use Rattle.rules_text.proofs.put_byte.Lts as lts
 use Rattle.rules_text.proofs.put_byte.Goals as goal
 
 pub returns-then-at-ge-MOST : goal.returns-then-at-ge-MOST

@@ -1,11 +1,9 @@
 -- `rules_text::put_leaf` meets its contract: the code tells which parts are put.
 use native.Mathlib.Omega.{arith}
-use Rattle.rules.specs.Pool.{Pool, pool}
+use Rattle.rules.specs.Pool.{pool}
 use Rattle.rules.proofs.Operators.{named}
 use Rattle.rules_text.proofs.Nodes.{n_op_lem, rest_op_lem}
 use Rattle.rules_text.proofs.Texts.{put_count, put_integer, put_n, put_rest, put_binary}
-use borrow.Author.Rules.{rules}
-use Rattle.rules_text.proofs.put_leaf.Lts as lts
 use Rattle.rules_text.proofs.put_leaf.Goals as goal
 
 pub returns-then-code-eq-N : goal.returns-then-code-eq-N

@@ -1,7 +1,5 @@
 -- `rules_text::put_rest` meets its contract: its bytes are put one after the other.
 use Rattle.rules_text.proofs.Texts.{rest_put}
-use borrow.Author.Rules.{rules}
-use Rattle.rules_text.proofs.put_rest.Lts as lts
 use Rattle.rules_text.proofs.put_rest.Goals as goal
 
 pub returns : goal.returns

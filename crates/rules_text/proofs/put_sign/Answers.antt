@@ -1,7 +1,5 @@
 -- `rules_text::put_sign` meets its contract: the table's row is the operator's bytes (Signs.antt).
 use Rattle.rules_text.proofs.Signs.{one_byte, two_bytes}
-use borrow.Author.Rules.{rules}
-use Rattle.rules_text.proofs.put_sign.Lts as lts
 use Rattle.rules_text.proofs.put_sign.Goals as goal
 
 pub returns-then-b-eq0 : goal.returns-then-b-eq0

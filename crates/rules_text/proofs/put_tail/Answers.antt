@@ -1,10 +1,8 @@
 -- `rules_text::put_tail` meets its contract: the code tells which parts are put.
 use native.Mathlib.Omega.{arith}
-use Rattle.rules.specs.Pool.{Pool, pool}
+use Rattle.rules.specs.Pool.{pool}
 use Rattle.rules.proofs.Operators.{named}
 use Rattle.rules_text.proofs.Texts.{tail_not, tail_pick, tail_value, tail_last}
-use borrow.Author.Rules.{rules}
-use Rattle.rules_text.proofs.put_tail.Lts as lts
 use Rattle.rules_text.proofs.put_tail.Goals as goal
 
 pub returns-then-code-eq-NOT : goal.returns-then-code-eq-NOT

@@ -1,7 +1,5 @@
 -- `rules_text::put_value` meets its contract: its parts are put one after the other.
 use Rattle.rules_text.proofs.Texts.{value_put}
-use borrow.Author.Rules.{rules}
-use Rattle.rules_text.proofs.put_value.Lts as lts
 use Rattle.rules_text.proofs.put_value.Goals as goal
 
 pub returns : goal.returns

@@ -3,12 +3,9 @@
 use mathlib.Core.Path.{refl, sym, ◌∙◌}
 use native.Mathlib.Omega.{arith}
 use lib.ListN.{length}
-use borrow.Author.Tests.{not-true, not-false}
-use Rattle.rules.specs.Pool.{Pool, pool}
+use Rattle.rules.specs.Pool.{pool}
 use Rattle.rules.proofs.Trees.{sound, told}
 use Rattle.rules_text.proofs.Writings.{no_room, fits, no_tree, a_tree, long, pasted}
-use borrow.Author.Rules.{rules}
-use Rattle.rules_text.proofs.write.Lts as lts
 use Rattle.rules_text.proofs.write.Goals as goal
 
 pub returns-then-not-is_tree : goal.returns-then-not-is_tree
