@@ -47,6 +47,12 @@ module _ (s : List ℕ) (at : ℕ) where
   unfolding skipped
   skip_blank h e w = w ∙ sym (counted_more blank s at at h e refl)
 
+  pub skip_space : {r : ℕ} → at < length s → get_or s at 0 ≡ 32 → r ≡ skipped s (at + 1) → r ≡ skipped s at
+  skip_space h e w = skip_blank h (rw e refl) w
+
+  pub skip_tab : {r : ℕ} → at < length s → get_or s at 0 ≡ 9 → r ≡ skipped s (at + 1) → r ≡ skipped s at
+  skip_tab h e w = skip_blank h (rw e refl) w
+
   pub skip_stop : at < length s → (get_or s at 0 ≡ 32 → ⊥) → (get_or s at 0 ≡ 9 → ⊥) → at ≡ skipped s at
   unfolding skipped
   skip_stop h i j = counted_stop blank s at at h (rw (ne_eqb _ _ i, ne_eqb _ _ j) refl) refl

@@ -94,6 +94,7 @@ fn single(b: u8, i: usize) -> u8
 }
 
 // Past the blanks.
+#[tactic(auto, using(crate::proofs::Lexed::skip_space, crate::proofs::Lexed::skip_tab))]
 fn skip(s: &[u8], at: usize) -> usize
     ensures { result ≡ skipped s.now at }
 {

@@ -14,9 +14,6 @@ slice_bounds-index_of-start c = omega (arith, c.width_of.ensures, (right _ c.req
 pub slice_bounds-index_of-end : goal.slice_bounds-index_of-end
 slice_bounds-index_of-end c = omega (arith, c.width_of.ensures, (right _ c.requires).few)
 
-pub index_of-requires : goal.index_of-requires
-index_of-requires c = rw (signs_is _ _ c.requires c.width_of.ensures) (right _ c.requires).some
-
 pub returns : goal.returns
 returns c = let at-width-of = c.width_of in
     c.index_of.ensures ∙ ap (λ p. index_of p c.args.s.now) (signs_is _ _ c.requires at-width-of.ensures)

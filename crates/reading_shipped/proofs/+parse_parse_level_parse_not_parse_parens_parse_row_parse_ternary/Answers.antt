@@ -1,3 +1,4 @@
+-- The cycle of the reading meets its contracts: what each function leaves to show. Assumes nothing.
 use Prim.Native.Nat.{◌+◌}
 use Rattle.reading_levels.proofs.Table.{right}
 use Rattle.reading_levels.specs.Levels.{row_at, rows}

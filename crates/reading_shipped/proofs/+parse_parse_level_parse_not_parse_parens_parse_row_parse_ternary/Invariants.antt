@@ -1,3 +1,5 @@
+-- What falls from call to call in the cycle of the reading: five for each byte, and the rank of the function: `parse` hands a text of the
+-- same length to `parse_parens`, this to `parse_level`, this to `parse_row`, this to `parse_ternary`; every other call has fewer bytes.
 use Prim.Native.Nat.{◌+◌, ◌*◌}
 use lib.ListN.{length}
 use Rattle.reading_shipped.proofs.+parse_parse_level_parse_not_parse_parens_parse_row_parse_ternary.Given as goal

@@ -1,3 +1,4 @@
+-- The cycle of the reader meets its contracts: what each function owes, in the order of the code.
 use Rattle.reading_standard.proofs.Levels.{by_prefix, by_bad_below, by_more, climbed, at_level, more_end, more_num, more_other, more_byte, more_tight, more_bad, more_more, ask_bad, ask_open, ask_last, ask_ask}
 use Rattle.reading_standard.proofs.Prefixes.{prefix_end, prefix_op, prefix_huge, prefix_num, prefix_n, not_bad, not_not, prefix_other, bracket_bad, bracket_open, bracket}
 use Rattle.reading_standard.proofs.Taken.{answered, gave}

@@ -1,3 +1,5 @@
+-- The cycle of the reader: its measures, and the loop over the levels. The measure is the text that is left, times more than the levels there
+-- are, plus the level: a call at the same position goes to a tighter level, and every other call is further on.
 use Prim.Native.Nat.{◌-◌, ◌≤◌, ◌+◌, ◌*◌}
 use Rattle.reading_grammar.specs.Grammar.{full}
 use Rattle.reading_standard.specs.Private.{Climbs}
