@@ -1,8 +1,8 @@
 -- A lookup by the index answers as the scan does, and in any slots an entry with the key. Assumes nothing.
 use Prim.Native.Nat.{ℕ, zero, suc, ◌<◌, ◌≤◌}
 use mathlib.Core.Path.{◌≡◌, refl, sym, ap, ◌∙◌}
-use mathlib.Core.Bool.{Bool, true, false}
-use mathlib.Core.List.{List, ◌++◌}
+use mathlib.Core.Bool.{true}
+use mathlib.Core.List.{List}
 use mathlib.Core.Option.{none}
 use native.Mathlib.Omega.{arith}
 use lib.ListN.{length, take, drop, length-append}
@@ -15,12 +15,11 @@ use Rattle.container_layout.specs.declared.Entry.{Entry}
 use Rattle.container_layout.specs.declared.Entry.TheVariants as entries
 use Rattle.container_layout.specs.declared.Tables.{Tables}
 use Rattle.lookup_scan.specs.Keys.{is_key, hit_of, last_in, last_with}
-use Rattle.lookup_scan.specs.declared.Hit.{Hit}
 use Rattle.lookup_scan.specs.declared.Hit.TheVariants as hit
 use Rattle.lookup_scan.proofs.Entries.{keyed_told}
 use Rattle.lookup_scan.proofs.Last.{Entered, Sound}
 use Rattle.lookup_slots.specs.Used.{used}
-use Rattle.lookup_slots.specs.Slots.{has, walk, last, built}
+use Rattle.lookup_slots.specs.Slots.{has, walk, last}
 use Rattle.lookup_slots.proofs.Used.{used_more}
 use Rattle.lookup_slots.proofs.Built.{Holds, walk_holds, walk_built, built_length, last_here, last_on}
 use Rattle.lookup_index.specs.Index.{key_in, key_at, index, hit_in, indexed, sought_in, building, leaves}
@@ -99,13 +98,10 @@ module _ (s : List ℕ) (t : Tables) where
     unfolding building
     enough =
         by_test (used t.count ≤ length lent) (leb (used t.count) (length lent)) (λ e. leb-true (used t.count) (length lent) e)
-        (λ e. absurd (refused (eqb (length s) t.length) (leb (used t.count) (length lent)) e b))
-      where
-        refused : (u v : Bool) → v ≡ false
-            → elim u [ true ↦ elim v [ true ↦ went.Built | false ↦ went.TooFew ] | false ↦ went.StaleLength ] ≡ went.Built → ⊥
-        refused true true e f = never (sym e)
-        refused true false e f = let z : ◌≡◌ {A = ℕ} 0 1 = cc in omega arith
-        refused false v e f = let z : ◌≡◌ {A = ℕ} 0 1 = cc in omega arith
+        (λ e.
+        by_test (used t.count ≤ length lent) (eqb (length s) t.length)
+        (λ f. let g = simp (e, f, building) at b in let z : ◌≡◌ {A = ℕ} 0 1 = cc in absurd (omega arith))
+        (λ f. let g = simp (e, f, building) at b in let z : ◌≡◌ {A = ℕ} 0 1 = cc in absurd (omega arith)))
 
     pub built_as_scan : (key : List ℕ) → sought_in s t (leaves s t lent went.Built) key ≡ sought.Found (last_with s t key)
     unfolding sought_in

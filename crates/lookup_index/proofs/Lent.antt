@@ -1,6 +1,6 @@
 -- The slots that are lent, of which the first are used: so many that their number is a power of two. Assumes nothing.
-use Prim.Native.Nat.{ℕ, ◌-◌, ◌%◌, ◌^◌, ◌<◌, ◌≤◌}
-use mathlib.Core.Path.{◌≡◌, refl, sym, ap, ◌∙◌}
+use Prim.Native.Nat.{ℕ, ◌-◌, ◌%◌, ◌<◌, ◌≤◌}
+use mathlib.Core.Path.{◌≡◌, sym, ap, ◌∙◌}
 use mathlib.Core.Bool.{true, false}
 use mathlib.Core.List.{List, ◌++◌}
 use native.Mathlib.Omega.{arith}
@@ -8,7 +8,7 @@ use native.Mathlib.Nat.{mod-lt}
 use lib.ListN.{length, take, drop}
 use lib.Seq.{length-take-le}
 use lib.Bits.{bit_and, and_mask}
-use lib.Dec.{eqb, leb}
+use lib.Dec.{leb}
 use borrow.Author.Tests.{leb-true, eq-eqb, ne_eqb}
 use Rattle.text.proofs.Tests.{taken, left, by_test}
 use Rattle.container_layout.specs.declared.Tables.{Tables}
@@ -22,7 +22,6 @@ use Rattle.lookup_slots.proofs.Used.{power_positive, used_smallest}
 use Rattle.lookup_index.specs.Index.{key_at, index, indexed, sought_in, building, leaves}
 use Rattle.lookup_index.specs.Private.{Power}
 use Rattle.lookup_index.specs.declared.Sought.TheVariants as sought
-use Rattle.lookup_index.specs.declared.Building.{Building}
 use Rattle.lookup_index.specs.declared.Building.TheVariants as went
 
 pub power_one : {m : ℕ} → Power m → 1 ≤ m

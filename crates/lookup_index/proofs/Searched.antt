@@ -5,7 +5,6 @@ use mathlib.Core.Bool.{Bool, true, false}
 use mathlib.Core.List.{List, [], ◌∷◌, ◌++◌, append_assoc}
 use native.Mathlib.Omega.{arith}
 use lib.ListN.{length, get_or, get_or-eq_default}
-use lib.Dec.{eqb}
 use borrow.Author.Tests.{eq-eqb, ne_eqb}
 use Rattle.text.proofs.Tests.{never, taken, left, by_test}
 use Rattle.container_layout.specs.Mo.{entry}
@@ -19,12 +18,11 @@ use Rattle.lookup_scan.specs.declared.Hit.TheVariants as hit
 use Rattle.lookup_scan.proofs.Entries.{shorter, has_told}
 use Rattle.lookup_slots.specs.Hash.{hash_from, hash}
 use Rattle.lookup_slots.specs.Promise.{Hashes}
-use Rattle.lookup_slots.specs.Slots.{next, first, has, stops, place, walk}
+use Rattle.lookup_slots.specs.Slots.{first, has, stops, place}
 use Rattle.lookup_slots.proofs.Hashed.{hash_joined}
 use Rattle.lookup_slots.proofs.First.{first_here, first_on, first_end}
 use Rattle.lookup_index.specs.Index.{key_at, hit_in, indexed}
 use Rattle.lookup_index.specs.Private.{before_id, Next, named, Stops}
-use Rattle.lookup_index.specs.declared.Stop.{Stop}
 use Rattle.lookup_index.proofs.Answers.{key_above, has_below, below_of, indexed_sound}
 
 -- the hash of a key that is context, byte 4 and id, or the id only
