@@ -1,17 +1,13 @@
 -- The reason, put together from the parts that the code finds. Assumes nothing.
-use Prim.{tt}
 use Prim.Native.Nat.{ℕ}
 use mathlib.Core.Path.{◌≡◌, refl, sym, ap, ◌∙◌}
 use mathlib.Core.List.{List, [], ◌∷◌}
 use lib.ListN.{length}
 use borrow.Author.Tests.{eq-eqb, ne_eqb}
-use denote.Enum.Declared.{tag_of}
-use types.Run.{OneOf, miss}
 use Rattle.promise.proofs.Told.{told}
 use Rattle.text.proofs.Tests.{taken, left}
 use Rattle.rules.specs.declared.Resolved.{Resolved}
 use Rattle.rules.specs.declared.Resolved.TheVariants as resolved
-use Rattle.rules.specs.contracts.Resolved.{the_type}
 use Rattle.container_layout.specs.Mo.{segment}
 use Rattle.container_layout.specs.declared.Tables.{Tables}
 use Rattle.text.specs.declared.Stretch.{Stretch}
@@ -43,20 +39,20 @@ module _ (s : List ℕ) (t : Tables) (v : Resolved) (h : Hit) where
   by_form {form = form} e f k m n = by_rule_lem e f k (n ∙ ap (by_rule s (resolved.Form form)) m)
 
 -- where the rule names no form, no key is sought
-no_form : (s : List ℕ) (v : Resolved) (h : Hit) → OneOf (1 ∷ 2 ∷ []) (tag_of the_type v) → by_rule s v hit.Missing ≡ by_rule s v h
-no_form s (resolved.Form form) h k = absurd (miss (1 ∷ 2 ∷ []) 0 tt k)
+no_form : (s : List ℕ) (v : Resolved) (h : Hit) → ((form : ℕ) → v ≡ resolved.Form form → ⊥) → by_rule s v hit.Missing ≡ by_rule s v h
+no_form s (resolved.Form form) h k = absurd (k form refl)
 no_form s resolved.ZeroModulus h k = refl
 no_form s resolved.NoTree h k = refl
 
 pub by_no_form : (s : List ℕ) (t : Tables) (v : Resolved) (h : Hit) {u : Resolved} {r : Reason} → length s ≡ t.length → u ≡ v
-    → OneOf (1 ∷ 2 ∷ []) (tag_of the_type u) → r ≡ by_rule s u hit.Missing → r ≡ plural s t v h
+    → ((form : ℕ) → u ≡ resolved.Form form → ⊥) → r ≡ by_rule s u hit.Missing → r ≡ plural s t v h
 by_no_form s t v h {u} e f g k = by_rule_lem s t v h e f refl (k ∙ no_form s u h g)
 
 -- too few slots, where the nodes are a tree
-pub some_tree : (v : Resolved) → OneOf (0 ∷ 1 ∷ []) (tag_of the_type v) → IndexRoom ≡ few_slots v
+pub some_tree : (v : Resolved) → (v ≡ resolved.NoTree → ⊥) → IndexRoom ≡ few_slots v
 some_tree (resolved.Form form) k = refl
 some_tree resolved.ZeroModulus k = refl
-some_tree resolved.NoTree k = absurd (miss (0 ∷ 1 ∷ []) 2 tt k)
+some_tree resolved.NoTree k = absurd (k refl)
 
 -- by lent slots
 module _ (s : List ℕ) (t : Tables) (v : Resolved) (x : Sought) where

@@ -1,5 +1,4 @@
 -- The text that answers, by its cases. Assumes nothing.
-use Prim.{tt}
 use Prim.Native.Nat.{ℕ, ◌+◌, ◌-◌, ◌<◌, ◌≤◌}
 use mathlib.Core.Path.{◌≡◌, refl, sym, ap, ◌∙◌}
 use mathlib.Core.List.{List, [], ◌∷◌}
@@ -8,25 +7,22 @@ use native.Mathlib.Nat.{add-sub_cancel_left}
 use lib.ListN.{length, take, drop}
 use borrow.Author.Tests.{le-leb, lt-leb, eq-eqb, ne_eqb}
 use denote.Ref.{Bor}
-use denote.Enum.Declared.{tag_of}
-use types.Run.{OneOf, miss}
 use Rattle.text.proofs.Tests.{taken, left}
 use Rattle.lookup.specs.Text.{text_or, plural_text, IsText}
 use Rattle.lookup.specs.declared.Reason.{Reason}
 use Rattle.lookup.specs.declared.Reason.TheVariants.{StaleLength, NoTree, IndexRoom, ZeroModulus, NoEntry, TooFewSegments, Answered}
 use Rattle.lookup.specs.declared.Text.{Text}
 use Rattle.lookup.specs.declared.Text.TheVariants.{Segment, Id, PluralId}
-use Rattle.lookup.specs.contracts.Reason.{the_type}
 
 -- any reason but an answer leaves the caller's own text
-pub own_text : (own : Text) (r : Reason) → OneOf (0 ∷ 1 ∷ 2 ∷ 3 ∷ 4 ∷ 5 ∷ []) (tag_of the_type r) → own ≡ text_or own r
+pub own_text : (own : Text) (r : Reason) → ((i form start len : ℕ) → r ≡ Answered i form start len → ⊥) → own ≡ text_or own r
 own_text own StaleLength h = refl
 own_text own NoTree h = refl
 own_text own IndexRoom h = refl
 own_text own ZeroModulus h = refl
 own_text own NoEntry h = refl
 own_text own (TooFewSegments i) h = refl
-own_text own (Answered i form start len) h = absurd (miss (0 ∷ 1 ∷ 2 ∷ 3 ∷ 4 ∷ 5 ∷ []) 6 tt h)
+own_text own (Answered i form start len) h = absurd (h i form start len refl)
 
 -- with a count the caller's own text is the id for 1
 module _ (n : ℕ) (r : Reason) {x : Text} where
@@ -50,7 +46,7 @@ module _ (file id pluralId : Bor (List ℕ)) {x : Text} where
     outside h = rw e (record { says = rw (lt-leb (start + len) (length file.now) h) })
 
     pub part : (r : Bor (List ℕ)) → start + len ≤ length file.now → r.now ≡ take (start + len - start) (drop start file.now) → r.ref_ptr.0 ≡ file.ref_ptr.0
-        → r.ref_ptr.1 ≡ start + file.ptr.1 → IsText file id pluralId x r
+        → r.ref_ptr.1 ≡ start + file.ref_ptr.1 → IsText file id pluralId x r
     part r h f g k =
         rw e (record {
           says = rw (le-leb (start + len) (length file.now) h) (record {
