@@ -1,28 +1,23 @@
 -- A lookup's answer by its reason: any but an answer is a fallback, and the answer says what the reason says: its number, and which text.
 -- Assumes nothing.
-use Prim.{tt}
 use Prim.Native.Nat.{ℕ}
 use mathlib.Core.Path.{◌≡◌, refl}
-use mathlib.Core.List.{List, [], ◌∷◌}
-use denote.Enum.Declared.{tag_of}
-use types.Run.{OneOf, miss}
 use Rattle.lookup.specs.Lookup.{number}
 use Rattle.lookup.specs.Text.{singular_text}
 use Rattle.lookup.specs.declared.Reason.{Reason}
 use Rattle.lookup.specs.declared.Reason.TheVariants.{StaleLength, NoTree, IndexRoom, ZeroModulus, NoEntry, TooFewSegments, Answered}
 use Rattle.lookup.specs.declared.Text.{Text}
 use Rattle.lookup.specs.declared.Text.TheVariants.{Segment, Id, PluralId}
-use Rattle.lookup.specs.contracts.Reason.{the_type}
 use Rattle.host.specs.Host.{fallback, answer_of}
 
-pub not_answered : (own : ℕ) (r : Reason) → OneOf (0 ∷ 1 ∷ 2 ∷ 3 ∷ 4 ∷ 5 ∷ []) (tag_of the_type r) → fallback (number r) own ≡ answer_of own r
+pub not_answered : (own : ℕ) (r : Reason) → ((i form start len : ℕ) → r ≡ Answered i form start len → ⊥) → fallback (number r) own ≡ answer_of own r
 not_answered own StaleLength h = refl
 not_answered own NoTree h = refl
 not_answered own IndexRoom h = refl
 not_answered own ZeroModulus h = refl
 not_answered own NoEntry h = refl
 not_answered own (TooFewSegments i) h = refl
-not_answered own (Answered i form start len) h = absurd (miss (0 ∷ 1 ∷ 2 ∷ 3 ∷ 4 ∷ 5 ∷ []) 6 tt h)
+not_answered own (Answered i form start len) h = absurd (h i form start len refl)
 
 -- its number is the reason's
 pub answer_number : (own : ℕ) (r : Reason) → (answer_of own r).number ≡ number r
