@@ -2,8 +2,8 @@
 -- of demand 3. Each theorem is named after the program that it speaks against, and says what the contract asks on a file or rule of any
 -- result that it allows; the program named answers otherwise. Assumes nothing.
 use Prim.Native.Nat.{ℕ}
-use mathlib.Core.Path.{◌≡◌, refl, subst, ap, ◌∙◌}
-use mathlib.Core.Bool.{Bool, true, false}
+use mathlib.Core.Path.{◌≡◌, subst, ap}
+use mathlib.Core.Bool.{Bool, false}
 use mathlib.Core.List.{List, [], ◌∷◌, ◌++◌}
 use lib.ListN.{length, take, set}
 use lib.Dec.{leb}
@@ -28,8 +28,6 @@ use Rattle.rules.specs.declared.Rated.TheVariants.{Range}
 use Rattle.rules.specs.declared.Resolved as resolving
 use Rattle.rules.specs.declared.Resolved.TheVariants.{Form}
 use Rattle.text_digits.specs.Digits.{digits_from, integer}
-use Rattle.reading_grammar.specs.Tokens.{tokens, lex}
-use Rattle.reading_grammar.specs.Reading.{standard}
 use Rattle.reading_scan.specs.Scan.{index_from, index_of, end_from}
 use Rattle.reading_shipped.specs.Shipped.{shipped, parse_in, parens, level, choose, read_not}
 use Rattle.reading_rule.specs.Plurals.{made, tested, parsed, Parses}

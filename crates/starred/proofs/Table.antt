@@ -4,7 +4,6 @@ use Prim.Native.Nat.{ℕ, ◌-◌}
 use mathlib.Core.Path.{◌≡◌, refl}
 use mathlib.Core.Bool.{Bool, true, false}
 use mathlib.Core.List.{List, [], map}
-use lib.Dec.{eqb}
 use Rattle.text.specs.Bytes.{front, all, same, begins, first}
 use Rattle.text.specs.Cut.{cut, every}
 use Rattle.text_trim.specs.Trim.{trim, trim_start, trim_end, edge_after, lead, encode}
@@ -42,7 +41,6 @@ use Rattle.container.specs.declared.Options.{Options}
 use Rattle.lookup_scan.specs.Keys.{last_in, last_with}
 use Rattle.lookup.specs.Lookup as lookup
 use Rattle.lookup.specs.Text.{singular_text, plural_text}
-use Rattle.lookup.specs.declared.Reason.{Reason}
 use Rattle.lookup.specs.declared.Text.{Text}
 use Rattle.lookup.specs.declared.Text.TheVariants.{Segment, Id, PluralId}
 use Rattle.starred.specs.Table.{Case, loading, looking, counting, reading, valuing, ranging, fitting, Said, number, part, own, own_plural, tree, form, range, unrated, yes, no, starred}

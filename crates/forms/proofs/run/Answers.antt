@@ -1,7 +1,6 @@
 -- Each line lies in the text. Assumes nothing.
 use mathlib.Core.Path.{sym}
 use lib.Seq.{length-take-le}
-use borrow.Author.Rules.{rules}
 use Rattle.forms.proofs.run.Goals as goal
 
 pub slice_bounds-count-end : goal.slice_bounds-count-end

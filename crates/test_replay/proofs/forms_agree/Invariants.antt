@@ -1,7 +1,5 @@
 -- Safe, and ends: the measure is the counts that are left. Assumes nothing.
-use borrow.Author.Rules.{rules}
 use Prim.Native.Nat.{◌-◌}
-use Rattle.test_replay.proofs.forms_agree.Lts as lts
 use Rattle.test_replay.proofs.forms_agree.Given as goal
 
 abbrev pub invariant-loop-i : goal.invariant-loop-i

@@ -1,7 +1,5 @@
 -- Safe, and ends: each lookup takes at least two bytes of the list. Assumes nothing.
-use borrow.Author.Rules.{rules}
 use Prim.Native.Nat.{◌-◌}
-use Rattle.test_replay.proofs.lookups_agree.Lts as lts
 use Rattle.test_replay.proofs.lookups_agree.Given as goal
 
 abbrev pub invariant-loop-at : goal.invariant-loop-at
