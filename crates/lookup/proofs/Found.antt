@@ -1,7 +1,7 @@
 -- Where an answer comes from, however its entry was found, in any record and any file: the file's length is the record's, the form is the
 -- rule's value, and the segment is the one that this form names in an entry below the count that has the key. So it lies in the file, and
 -- a host may take it from there. Assumes nothing.
-use Prim.Native.Nat.{ℕ, zero, suc, ◌+◌, ◌<◌, ◌≤◌}
+use Prim.Native.Nat.{ℕ, zero, suc, ◌+◌, ◌≤◌}
 use mathlib.Core.Path.{◌≡◌, refl, sym, ap, ◌∙◌}
 use mathlib.Core.List.{List, [], ◌∷◌}
 use native.Mathlib.Omega.{arith}
@@ -53,7 +53,8 @@ module _ (s : List ℕ) (t : Tables) {i form at size : ℕ} where
   by_rule_lem : (v : Resolved) (h : Hit) → length s ≡ t.length → by_rule s v h ≡ Answered i form at size → Answer s t v h i form at size
   by_rule_lem (resolved.Form g) (hit.At j start len) l f = by_segment_lem g j start len (segment s start len g) l refl f
   by_rule_lem (resolved.Form g) hit.Missing l f = let z : ◌≡◌ {A = ℕ} 0 1 = cc in absurd (omega arith)
-  by_rule_lem resolved.ZeroModulus h l f = let z : ◌≡◌ {A = ℕ} 0 1 = cc in absurd (omega arith)
+  by_rule_lem resolved.ZeroModulus (hit.At j start len) l f = let z : ◌≡◌ {A = ℕ} 0 1 = cc in absurd (omega arith)
+  by_rule_lem resolved.ZeroModulus hit.Missing l f = let z : ◌≡◌ {A = ℕ} 0 1 = cc in absurd (omega arith)
   by_rule_lem resolved.NoTree h l f = let z : ◌≡◌ {A = ℕ} 0 1 = cc in absurd (omega arith)
 
   pub answered : (v : Resolved) (h : Hit) → plural s t v h ≡ Answered i form at size → Answer s t v h i form at size

@@ -85,6 +85,7 @@ fn by_slots(file: &[u8], value: Resolved, sought: Sought) -> Reason
 }
 
 // A lookup without a count: `gettext`, and with a context `pgettext`.
+#[tactic(auto, using(crate::proofs::Reasons::stale))]
 pub fn find(file: &[u8], t: Tables, given: bool, context: &[u8], id: &[u8]) -> Reason
     ensures { result ≡ singular file.now t (last_with file.now t (key_of given context.now id.now)) }
 {
@@ -96,6 +97,7 @@ pub fn find(file: &[u8], t: Tables, given: bool, context: &[u8], id: &[u8]) -> R
 }
 
 // A lookup with a count: `ngettext`, and with a context `npgettext`. The rule is resolved before the key is sought.
+#[tactic(auto, using(crate::proofs::Reasons::stale))]
 pub fn nfind<'a, 'b>(
     file: &'a [u8],
     t: Tables,
@@ -203,6 +205,7 @@ pub fn singular_text(reason: Reason) -> Text
 }
 
 // With a count it is the id for one, and the plural id otherwise.
+#[tactic(auto, using(crate::proofs::Said::for_one))]
 pub fn plural_text(reason: Reason, n: u64) -> Text
     ensures { result ≡ plural_text n reason }
 {

@@ -1,8 +1,6 @@
 -- The text by the reason. Assumes nothing.
 use mathlib.Core.Path.{◌∙◌, ap}
 use Rattle.lookup.specs.Text.{plural_text}
-use borrow.Author.Rules.{rules}
-use Rattle.gettext.proofs.ngettext.Lts as lts
 use Rattle.gettext.proofs.ngettext.Goals as goal
 
 pub returns : goal.returns

@@ -1,6 +1,5 @@
 -- The hit names the translation, and the form its segment. Assumes nothing.
 use Rattle.lookup.proofs.Reasons.{by_segment_lem}
-use borrow.Author.Rules.{rules}
 use Rattle.lookup.proofs.by_entry.Goals as goal
 
 pub returns-in_default-segment : goal.returns-in_default-segment

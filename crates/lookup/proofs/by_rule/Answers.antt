@@ -3,7 +3,6 @@ use mathlib.Core.Path.{◌∙◌}
 use Rattle.promise.proofs.Told.{told}
 use Rattle.rules.specs.declared.Resolved.{Resolved}
 use Rattle.lookup.specs.Lookup.{by_rule}
-use borrow.Author.Rules.{rules}
 use Rattle.lookup.proofs.by_rule.Goals as goal
 
 pub returns-in-Form : goal.returns-in-Form

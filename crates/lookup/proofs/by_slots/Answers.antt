@@ -2,7 +2,6 @@
 use mathlib.Core.Path.{◌∙◌}
 use Rattle.promise.proofs.Told.{told}
 use Rattle.lookup.specs.Lookup.{by_slots}
-use borrow.Author.Rules.{rules}
 use Rattle.lookup.proofs.by_slots.Goals as goal
 
 pub returns : goal.returns

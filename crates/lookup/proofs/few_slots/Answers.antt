@@ -1,6 +1,5 @@
 -- Nodes that are no tree, or any other value. Assumes nothing.
 use Rattle.lookup.proofs.Reasons.{some_tree}
-use borrow.Author.Rules.{rules}
 use Rattle.lookup.proofs.few_slots.Goals as goal
 
 pub returns : goal.returns

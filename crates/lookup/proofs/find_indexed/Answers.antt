@@ -1,7 +1,6 @@
 -- The length is tested, and form 0 is sought by the slots. Assumes nothing.
 use mathlib.Core.Path.{refl}
 use Rattle.lookup.proofs.Reasons.{stale_in, by_slots_lem}
-use borrow.Author.Rules.{rules}
 use Rattle.lookup.proofs.find_indexed.Goals as goal
 
 pub returns-then-size-t : goal.returns-then-size-t

@@ -1,7 +1,6 @@
 -- The length is tested; then the value and what was sought decide. Assumes nothing.
 use mathlib.Core.Path.{sym}
 use Rattle.lookup.proofs.Reasons.{stale_in, by_slots_lem}
-use borrow.Author.Rules.{rules}
 use Rattle.lookup.proofs.nfind_indexed.Goals as goal
 
 pub returns-then-t-size : goal.returns-then-t-size

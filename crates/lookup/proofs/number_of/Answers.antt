@@ -1,7 +1,6 @@
 -- Each case has its number. Assumes nothing.
 use Rattle.promise.proofs.Told.{told}
 use Rattle.lookup.specs.Lookup.{number}
-use borrow.Author.Rules.{rules}
 use Rattle.lookup.proofs.number_of.Goals as goal
 
 pub returns-in-Answered : goal.returns-in-Answered

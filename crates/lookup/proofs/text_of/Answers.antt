@@ -2,7 +2,6 @@
 use mathlib.Core.Path.{refl}
 use native.Mathlib.Omega.{arith}
 use Rattle.lookup.proofs.Said.{own_id, own_plural, outside, part}
-use borrow.Author.Rules.{rules}
 use Rattle.lookup.proofs.text_of.Goals as goal
 
 pub returns-then-file-start : goal.returns-then-file-start

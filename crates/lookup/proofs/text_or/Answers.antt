@@ -2,7 +2,6 @@
 use Rattle.promise.proofs.Told.{told}
 use Rattle.lookup.specs.Text.{text_or}
 use Rattle.lookup.proofs.Said.{own_text}
-use borrow.Author.Rules.{rules}
 use Rattle.lookup.proofs.text_or.Goals as goal
 
 pub returns-in_default : goal.returns-in_default

@@ -1,6 +1,5 @@
 -- The hit names the translation, and the form its segment. Assumes nothing.
 use Rattle.lookup_why.proofs.Reasons.{answered, too_few}
-use borrow.Author.Rules.{rules}
 use Rattle.lookup_why.proofs.by_entry.Goals as goal
 
 pub returns-in_default-segment : goal.returns-in_default-segment

@@ -3,7 +3,6 @@ use mathlib.Core.Path.{◌∙◌}
 use Rattle.promise.proofs.Told.{told}
 use Rattle.rules_zero.specs.declared.Traced.{Traced}
 use Rattle.lookup_why.specs.Why.{by_rule}
-use borrow.Author.Rules.{rules}
 use Rattle.lookup_why.proofs.by_rule.Goals as goal
 
 pub returns-in-Form : goal.returns-in-Form

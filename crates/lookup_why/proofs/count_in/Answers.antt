@@ -1,9 +1,6 @@
-use Prim.Native.Nat.{◌-◌}
 use native.Mathlib.Omega.{arith}
-use lib.ListN.{length}
 use Rattle.text.proofs.Cuts.{rest_after}
-use Rattle.lookup_why.proofs.Counted.{Counted, counted_first, counted_all, counted_on}
-use borrow.Author.Rules.{rules}
+use Rattle.lookup_why.proofs.Counted.{counted_first, counted_all, counted_on}
 use Rattle.lookup_why.proofs.count_in.Goals as goal
 
 pub loop-count-init : goal.loop-count-init

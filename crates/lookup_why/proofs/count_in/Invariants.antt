@@ -1,10 +1,7 @@
 -- The loop's invariant: what was passed and what is left are the segments. The measure is what is left. Assumes nothing.
 use Prim.Native.Nat.{◌-◌}
-use native.Mathlib.Omega.{arith}
 use lib.ListN.{length}
-use Rattle.text.proofs.Cuts.{rest_after}
-use Rattle.lookup_why.proofs.Counted.{Counted, counted_first, counted_all, counted_on}
-use borrow.Author.Rules.{rules}
+use Rattle.lookup_why.proofs.Counted.{Counted}
 use Rattle.lookup_why.proofs.count_in.Given as goal
 
 abbrev pub invariant-loop-count : goal.invariant-loop-count

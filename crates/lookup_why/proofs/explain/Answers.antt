@@ -1,7 +1,6 @@
 -- The length is tested, then the rule's value and the last entry with the key decide. Assumes nothing.
 use mathlib.Core.Path.{sym}
 use Rattle.lookup_why.proofs.Reasons.{stale, by_rule_lem}
-use borrow.Author.Rules.{rules}
 use Rattle.lookup_why.proofs.explain.Goals as goal
 
 pub returns-then-t-file : goal.returns-then-t-file

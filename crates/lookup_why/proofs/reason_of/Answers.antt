@@ -1,7 +1,6 @@
 -- Case by case. Assumes nothing.
 use Rattle.promise.proofs.Told.{told}
 use Rattle.lookup_why.specs.Why.{reason_of}
-use borrow.Author.Rules.{rules}
 use Rattle.lookup_why.proofs.reason_of.Goals as goal
 
 pub returns-in-TooFewSegments : goal.returns-in-TooFewSegments

@@ -1,7 +1,6 @@
 -- A translation that lies in the file is counted, and any other stores none. Assumes nothing.
 use native.Mathlib.Omega.{arith}
 use Rattle.lookup_why.proofs.Counted.{none_stored, all_stored}
-use borrow.Author.Rules.{rules}
 use Rattle.lookup_why.proofs.stored_at.Goals as goal
 
 pub returns-then-file-start : goal.returns-then-file-start
