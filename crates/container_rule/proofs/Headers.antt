@@ -1,5 +1,5 @@
 -- The header as the code meets it: its parts lie in it, and it lies in the file. Assumes nothing.
-use Prim.Native.Nat.{ℕ, zero, suc, ◌+◌, ◌-◌, ◌^◌, ◌<◌, ◌≤◌}
+use Prim.Native.Nat.{ℕ, zero, suc, ◌+◌, ◌-◌, ◌≤◌}
 use mathlib.Core.Path.{◌≡◌, refl, sym, ap, ◌∙◌}
 use mathlib.Core.Bool.{Bool, true, false, ◌||◌}
 use mathlib.Core.List.{List, [], ◌∷◌}
@@ -12,11 +12,9 @@ use Rattle.text.specs.Bytes.{place}
 use Rattle.text.specs.Cut.{cut}
 use Rattle.text.proofs.Tests.{taken, left, by_test}
 use Rattle.text.proofs.Cuts.{cut_first, cut_whole, place_length}
-use Rattle.header_fields.specs.Fields.{shift}
-use Rattle.header_fields.specs.Promise.{start_of, end_of}
 use Rattle.text.specs.declared.Stretch.{Stretch}
 use Rattle.text.specs.declared.Stretch.TheVariants.{At, Absent}
-use Rattle.header.specs.Header.{metadata, utf8_label}
+use Rattle.header.specs.Header.{metadata}
 use Rattle.header.specs.declared.Metadata.{Metadata}
 use Rattle.header.specs.declared.Metadata.TheVariants.{Malformed, Fields}
 use Rattle.header.proofs.Ends.{Inside, fields_end}
@@ -28,25 +26,6 @@ use Rattle.container_rule.specs.Rule.{label_ok, headed, rule_at, segment0, shift
 use Rattle.container_rule.specs.Promise.{end_of_rule}
 use Rattle.container_rule.specs.declared.First.{First}
 use Rattle.container_rule.specs.declared.First.TheVariants.{Rule, Refused}
-
--- a label at a place
-pub label_fits : {p : Stretch} {a l : ℕ} (n : ℕ) → p ≡ At a l → end_of p ≤ n → a + l ≤ n
-label_fits n e h = rw e at h
-
-or_first : {u : Bool} (k : Bool) → u ≡ true → true ≡ (u || k)
-or_first k e = rw e
-
-or_second : {u k r : Bool} → u ≡ false → r ≡ k → r ≡ (u || k)
-or_second e f = rw e f
-
-pub utf8_forced : (h : List ℕ) (p : Stretch) {u : Bool} → u ≡ true → true ≡ (u || label_ok h p)
-utf8_forced h p e = or_first (label_ok h p) e
-
-pub label_there : (h : List ℕ) {p : Stretch} {a l : ℕ} {u r : Bool} → u ≡ false → p ≡ At a l → r ≡ utf8_label (take (a + l - a) (drop a h)) → r ≡ (u || label_ok h p)
-label_there h {p} {a} {l} e f g = let z : a + l - a ≡ l = omega arith in or_second e (rw (f, ← z) g)
-
-pub label_absent : (h : List ℕ) {p : Stretch} {u : Bool} → u ≡ false → p ≡ Absent → true ≡ (u || label_ok h p)
-label_absent h e f = or_second e (rw f)
 
 -- where the rule lies
 module _ (forced utf8 : Bool) (h : List ℕ) {m : Metadata} (e : m ≡ metadata h) where
@@ -85,17 +64,6 @@ headed_end forced utf8 h (Fields p q n) e =
 pub rule_ends : (forced utf8 : Bool) (h : List ℕ) → end_of_rule (rule_at forced utf8 h) ≤ length h
 unfolding rule_at
 rule_ends forced utf8 h = headed_end forced utf8 h (metadata h) refl
-
--- a place that is counted from k bytes earlier
-start_first : (k : ℕ) (q : Stretch) → k + end_of q < 2 ^ 64 → k + start_of q < 2 ^ 64
-start_first k (At a l) h = omega arith
-start_first k Absent h = omega arith
-
-pub rule_moves : (k : ℕ) {f : First} {q : Stretch} {n : Forms} → f ≡ Rule q n → k + end_of_rule f < 2 ^ 64 → k + start_of q < 2 ^ 64
-rule_moves k {f} {q} e h = let z : k + end_of q < 2 ^ 64 = rw e at h in start_first k q z
-
-pub rule_moved : (k : ℕ) {f : First} {p q : Stretch} {n : Forms} → f ≡ Rule p n → q ≡ shift k p → Rule q n ≡ shifted k f
-rule_moved k e g = rw (e, g)
 
 -- segment 0: up to the first NUL
 segment_zero : (x : List ℕ) → segment0 (cut 0 x) ≡ take (place 0 x) x

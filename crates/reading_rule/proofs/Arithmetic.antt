@@ -3,12 +3,10 @@ use Prim.Native.Nat.{ℕ}
 use mathlib.Core.Path.{◌≡◌, refl}
 use mathlib.Core.List.{List, [], ◌∷◌, map}
 use Rattle.text.specs.Bytes.{bytes, all, begins}
-use Rattle.text_trim.specs.Trim.{white_space, trim, trim_start, trim_end, edge_after, lead, encode}
+use Rattle.text_trim.specs.Trim.{trim, trim_start, trim_end, edge_after, lead, encode}
 use Rattle.refusal.specs.Numbers.{number_of}
 use Rattle.refusal.specs.declared.Where.TheVariants.{Forced}
 use Rattle.refusal.specs.declared.Error.TheVariants as error
-use Rattle.rules.specs.declared.Value.{Value}
-use Rattle.rules.specs.declared.Value.TheVariants.{Is, ZeroModulus}
 use Rattle.rules.specs.declared.Rating.{Rating}
 use Rattle.rules.specs.declared.Rating.TheVariants.{Range, Unrated}
 use Rattle.rules.specs.Value.{eval_tree, binary, calculated, negated, chosen, truth_v}

@@ -1,7 +1,7 @@
 -- A rule in the Standard reading, by C's grammar alone: the trimmed text has at most 512 bytes, all ASCII, and means that tree. Assumes nothing.
 use Prim.Native.Nat.{ℕ, ◌≤◌}
-use mathlib.Core.Path.{◌≡◌, refl, sym, ap, ◌∙◌}
-use mathlib.Core.Bool.{Bool, true, false}
+use mathlib.Core.Path.{◌≡◌, sym, ap, ◌∙◌}
+use mathlib.Core.Bool.{true, false}
 use mathlib.Core.Logic.{◌↔◌}
 use mathlib.Core.List.{List}
 use native.Mathlib.Omega.{arith}
@@ -20,7 +20,7 @@ use Rattle.rules.specs.Tree.{Tree}
 use Rattle.reading_grammar.specs.Spells.{Means}
 use Rattle.reading_grammar.specs.Reading.{standard}
 use Rattle.reading_grammar.proofs.Spelled.{agrees_text}
-use Rattle.reading_rule.specs.Plurals.{Parse, rule, norule, made, is_ascii, tested, parsed}
+use Rattle.reading_rule.specs.Plurals.{rule, norule, made, is_ascii, tested, parsed}
 use Rattle.reading_rule.specs.declared.Reading.TheVariants.{Standard}
 
 pub record IsRule (s : List ℕ) (t : Tree) : Type 0 where

@@ -2,7 +2,7 @@
 -- case each test leaves. Assumes nothing.
 use Prim.Native.Nat.{ℕ, ◌+◌, ◌-◌, ◌<◌, ◌≤◌}
 use mathlib.Core.Path.{◌≡◌, refl, sym, ap, ◌∙◌}
-use mathlib.Core.Bool.{Bool, true, false, not}
+use mathlib.Core.Bool.{Bool, true, false}
 use mathlib.Core.List.{List}
 use native.Mathlib.Omega.{arith}
 use borrow.Author.Tests.{lt-ltb, le-ltb}
@@ -22,10 +22,7 @@ use Rattle.rules.specs.Store.{size, store, blank}
 use Rattle.rules.specs.Reads.{Answered}
 use Rattle.rules.specs.declared.Nodes.{Nodes}
 use Rattle.rules.specs.declared.Nodes.TheVariants.{Read, NoReading}
-use Rattle.reading_grammar.specs.Reading.{standard}
-use Rattle.reading_shipped.specs.Shipped.{shipped}
 use Rattle.reading_rule.specs.declared.Reading.{Reading}
-use Rattle.reading_rule.specs.declared.Reading.TheVariants.{Shipped, Standard}
 use Rattle.reading_rule.specs.declared.Parsed.{Parsed}
 use Rattle.refusal.specs.Places.{at}
 use Rattle.refusal.specs.declared.Where.{Where}
@@ -52,13 +49,6 @@ module _ (s : List ℕ) (i : ℕ) (e : Passed s i) where
 
 pub parses : {p q : Parse} {Q : Pool} {r : Parsed} → p ≡ q → Parses q Q r → Parses p Q r
 parses e h = rw e h
-
-module _ {reading : Reading} {s : List ℕ} {P Q : Pool} {r : Nodes} where
-  pub read_shipped : reading ≡ Shipped → Answered (shipped s) s P Q r → Answered (read_as reading s) s P Q r
-  read_shipped e h = rw e h
-
-  pub read_standard : reading ≡ Standard → Answered (standard s) s P Q r → Answered (read_as reading s) s P Q r
-  read_standard e h = rw e h
 
 pub answered : {o : tree.Reading} {s : List ℕ} {P Q : Pool} {q r : Nodes} → Answered o s P Q q → q ≡ r → Answered o s P Q r
 answered h e = rw e at h

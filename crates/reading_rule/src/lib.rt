@@ -41,6 +41,7 @@ pub fn refuse(
 }
 
 // Whether every byte is below 128.
+#[tactic(auto, using(crate::proofs::Steps::ascii_not))]
 fn ascii(s: &[u8]) -> bool
     ensures { result ≡ all is_ascii s.now }
 {

@@ -1,7 +1,6 @@
 -- Segment 0 ends at the first NUL; the rule's place in it is moved. Assumes nothing.
 use native.Mathlib.Omega.{arith}
 use Rattle.container_rule.proofs.Headers.{header_in, rule_fits, header_told}
-use borrow.Author.Rules.{rules}
 use Rattle.container_rule.proofs.header_at.Goals as goal
 
 pub overflow_add-stop : goal.overflow_add-stop

@@ -1,6 +1,5 @@
 -- Entry 0 as loading reads it. Assumes nothing.
 use Rattle.container_rule.proofs.Entry.{none_first, header_fits, first_told, first_header}
-use borrow.Author.Rules.{rules}
 use Rattle.container_rule.proofs.parse_first.Goals as goal
 
 pub returns-then-t-eq0 : goal.returns-then-t-eq0

@@ -1,7 +1,6 @@
 -- Malformed, then the label, then the rule. Assumes nothing.
 use mathlib.Core.Path.{◌∙◌}
 use Rattle.container_rule.proofs.Headers.{malformed, inside, unknown, rule_forced, rule_given}
-use borrow.Author.Rules.{rules}
 use Rattle.container_rule.proofs.parse_header.Goals as goal
 
 pub returns-in_default : goal.returns-in_default

@@ -1,10 +1,7 @@
 -- The loop's invariant: every byte before i is below 128. The measure is what is left. Assumes nothing.
 use Prim.Native.Nat.{◌≤◌, ◌-◌}
-use mathlib.Core.Path.{refl}
-use native.Mathlib.Omega.{arith}
-use borrow.Author.Rules.{rules}
 use lib.ListN.{length}
-use Rattle.reading_rule.proofs.Steps.{Passed, ascii_more, ascii_not, ascii_end}
+use Rattle.reading_rule.proofs.Steps.{Passed}
 use Rattle.reading_rule.proofs.ascii.Given as goal
 
 abbrev pub invariant-loop-i : goal.invariant-loop-i

@@ -1,7 +1,6 @@
 -- What the reader's answer says of the reading settles each case; what it left can be packed. Assumes nothing.
 use Rattle.rules.proofs.Stored.{blank_is}
 use Rattle.reading_rule.proofs.Steps.{answered, parses, none_made, found, some_nodes, can_pack, has_room, held}
-use borrow.Author.Rules.{rules}
 use Rattle.reading_rule.proofs.rule_of.Goals as goal
 
 pub returns-in_default : goal.returns-in_default
