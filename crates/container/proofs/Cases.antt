@@ -158,7 +158,7 @@ fit_rows =
     ∷ header_row (bytes "plural=0") 13 Absent
     ∷ header_row (bytes "nplurals=+1;plural=0") 13 Absent
     ∷ header_row (bytes "") 13 Absent
-    -- the last well_formed one
+    -- the last well-formed one
     ∷ header_row (bytes "nplurals=1;plural=n!=1;nplurals=2;nplurals=x") 0 (Given 2)
     -- a forced rule: the header's is not read, its count is
     ∷ forced_row (bytes "n!=1") (bytes "nplurals=2;plural=(") 0 (Given 2)

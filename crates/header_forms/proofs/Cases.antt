@@ -22,7 +22,7 @@ row v n = record { value = v; count = n }
 
 abbrev pub rows : List Row
 rows =
-    -- both names; the last well_formed one counts, whichever name it has
+    -- both names; the last well-formed one counts, whichever name it has
     row (bytes "nplurals=2; plural=n != 1;") (Given 2)
     ∷ row (bytes "n_plurals=3") (Given 3)
     ∷ row (bytes "nplurals=2;n_plurals=3") (Given 3)

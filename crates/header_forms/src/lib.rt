@@ -63,7 +63,7 @@ fn count_in(piece: &[u8]) -> Forms
     Forms::Absent
 }
 
-// The last well_formed count in a Plural-Forms.
+// The last well-formed count in a Plural-Forms.
 fn form_count(v: &[u8]) -> Forms
     ensures { result ≡ form_count v.now }
 {
