@@ -1,7 +1,7 @@
 -- Forgetting the place and the count gives the answer of before, where no fit is asked for: the same numbers in the same order, the same
 -- tables and the same rule. Assumes nothing.
 use Prim.Native.Nat.{ℕ, zero, suc}
-use mathlib.Core.Path.{◌≡◌, refl, sym, ap, ◌∙◌}
+use mathlib.Core.Path.{◌≡◌, refl, ap, ◌∙◌}
 use mathlib.Core.Bool.{Bool, true, false, ◌||◌}
 use mathlib.Core.List.{List}
 use lib.ListN.{length, take, drop}
@@ -35,7 +35,6 @@ use Rattle.container_head.specs.declared.Head.{Head}
 use Rattle.container_head.specs.declared.Head.TheVariants as head
 use Rattle.container_rule.specs.Rule as choice
 use Rattle.container_rule.specs.Rule.{label_ok, segment0, rule_at, rule_in, forced_rule, file_forms}
-use Rattle.container_rule.specs.declared.First.{First}
 use Rattle.container_rule.specs.declared.First.TheVariants as first
 use Rattle.container.specs.Catalog as catalog
 use Rattle.container.specs.Catalog.{header, entry_step}

@@ -4,17 +4,15 @@ use Prim.Native.Nat.{ℕ, zero, suc, ◌+◌, ◌-◌, ◌<◌, ◌≤◌}
 use mathlib.Core.Path.{◌≡◌, refl, sym, ap, ap₂, ◌∙◌}
 use mathlib.Core.Bool.{Bool, true, false, ◌||◌}
 use mathlib.Core.Logic.{◌↔◌}
-use mathlib.Core.List.{List, [], ◌∷◌}
+use mathlib.Core.List.{List, []}
 use native.Mathlib.Omega.{arith}
-use lib.ListN.{length, take, drop}
+use lib.ListN.{take, drop}
 use borrow.Author.Tests.{lt-ltb, ltb-true}
 use Rattle.text.proofs.Tests.{taken, left, by_test}
 use Rattle.refusal.specs.Places.{at, in_header, in_rule}
 use Rattle.refusal.specs.declared.Refusal.{Refusal}
 use Rattle.refusal.specs.declared.Where.TheVariants.{File, Forced}
-use Rattle.refusal.specs.declared.Error.TheVariants.{MalformedMetadata, UnknownEncoding, NotFit}
-use Rattle.refusal.specs.declared.Outcome.{Outcome}
-use Rattle.refusal.specs.declared.Outcome.TheVariants as outcome
+use Rattle.refusal.specs.declared.Error.TheVariants.{UnknownEncoding, NotFit}
 use Rattle.rules.specs.Tree.{Tree, default_tree}
 use Rattle.rules.specs.Range.{rate_tree, fits_range}
 use Rattle.rules.specs.declared.Rating.{Rating}
@@ -27,11 +25,10 @@ use Rattle.header.specs.declared.Metadata.{Metadata}
 use Rattle.header.specs.declared.Metadata.TheVariants.{Malformed, Fields}
 use Rattle.header_forms.specs.declared.Forms.{Forms}
 use Rattle.header_forms.specs.declared.Forms.TheVariants as forms
-use Rattle.container_layout.specs.Mo.{string, original, id, segments}
+use Rattle.container_layout.specs.Mo.{original, id, segments}
 use Rattle.container_layout.specs.declared.Tables.{Tables}
 use Rattle.container_messages.specs.Messages.{read_at}
 use Rattle.container_messages.specs.Good.{Good}
-use Rattle.container_messages.specs.declared.Read.{Read}
 use Rattle.container_messages.specs.declared.Read.TheVariants as read
 use Rattle.container_messages.proofs.Accepts.{read_good, good_header, good_message, good_either}
 use Rattle.container_head.specs.Head.{head_of}
@@ -39,14 +36,11 @@ use Rattle.container_head.specs.declared.Head.{Head}
 use Rattle.container_head.specs.declared.Head.TheVariants as head
 use Rattle.container_head.proofs.Words.{head_words, words_head}
 use Rattle.container_rule.specs.Rule.{forced_rule, label_ok, headed, rule_at, segment0, rule_in, count_of, forms_read, forms_from, file_forms}
-use Rattle.container_rule.specs.declared.First.{First}
 use Rattle.container_rule.specs.declared.First.TheVariants as first
 use Rattle.container.specs.Catalog.{and_then, header, entry_step, entries_from, Answer, accepted, refused, answered, catalog, load_with, opened, fits, fitted, load}
-use Rattle.container.specs.Accepts.{Headed, IsHeader, Fine, Counts, forced, given, absent, headless, SomeFine, Carries, by_header, no_header, Sound, Fits, Accepts, Fails, by_forced, by_head, by_entry, by_fit}
-use Rattle.container.specs.Private.{rest_from}
+use Rattle.container.specs.Accepts.{IsHeader, Fine, Counts, forced, given, absent, headless, Carries, by_header, no_header, Sound, Fits, Accepts, Fails, by_forced, by_head, by_entry, by_fit}
 use Rattle.container.specs.declared.Options.{Options}
 use Rattle.container.proofs.Accepted.{Whole, accepted_whole, opened_passed, accepted_fitted}
-use Rattle.container.proofs.Stages.{step_of, rest_steps}
 
 never : {e : Refusal} {r : Tree} → norule e ≡ rule r → ⊥
 never e = let z : ◌≡◌ {A = ℕ} 0 1 = cc in omega arith

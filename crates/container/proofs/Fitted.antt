@@ -21,9 +21,8 @@ use Rattle.rules.specs.declared.Fit.{Fit}
 use Rattle.reading_rule.proofs.Joined.{held_fits}
 use Rattle.header_forms.specs.declared.Forms.{Forms}
 use Rattle.header_forms.specs.declared.Forms.TheVariants.{Given, Absent}
-use Rattle.container_layout.specs.declared.Tables.{Tables}
 use Rattle.container.specs.Catalog.{Answer, accepted, refused, opened, fits, fitted, load, tables_in, tree_in, forms_in}
-use Rattle.container.specs.Promise.{outcome_of, Empties, Loads}
+use Rattle.container.specs.Promise.{Empties, Loads}
 use Rattle.container.specs.Private.{is_yes, fits_in}
 use Rattle.container.specs.declared.Options.{Options}
 use Rattle.container.specs.declared.Loading.{Loading}

@@ -33,7 +33,7 @@ use Rattle.container_rule.specs.Promise.{end_of_rule, forms_of, Chooses}
 use Rattle.container_rule.specs.declared.First.{First}
 use Rattle.container_rule.specs.declared.First.TheVariants as first
 use Rattle.container_rule.proofs.Headers.{rule_ends, same_part}
-use Rattle.container_rule.proofs.Entry.{first_end, first_forms}
+use Rattle.container_rule.proofs.Entry.{first_forms}
 use Rattle.container_rule.proofs.Rules.{choosing}
 use Rattle.container.specs.Catalog.{and_then, header, entry_step, entries_from, Answer, refused, answered, catalog, load_with, opened}
 use Rattle.container.specs.Promise.{Empties, Loads}
@@ -136,9 +136,6 @@ module _ (o : Options) (f s : List ℕ) {forced : Parsed} {P : Pool} (g : Parses
     head_refused {h} {e} q w v z = refusing (opened o f s) (at_head q ∙ ap (catalog o s before) w) (v ∙ headless h w) z
 
     module _ {t : Tables} {h : Head} (q : h ≡ head_of s) (w : h ≡ head.Fields t) {at_first : First} (u : at_first ≡ first_rule o.forced o.utf8 s t) where
-      pub rule_inside : end_of_rule at_first ≤ length s
-      rule_inside = rw u (first_end o.forced o.utf8 s t)
-
       abbrev stage : Parse
       stage = rule_in o.reading s before at_first
 

@@ -12,7 +12,7 @@ use Rattle.rules.specs.Pool.{Pool, pool}
 use Rattle.header_forms.specs.declared.Forms.{Forms}
 use Rattle.container_layout.specs.declared.Tables.{Tables}
 use Rattle.container.specs.Catalog.{Answer}
-use Rattle.container.specs.Promise.{Holds, Loads, Opens}
+use Rattle.container.specs.Promise.{Holds, Loads}
 use Rattle.container.specs.declared.Record.{Record}
 use Rattle.container.specs.declared.Loading.{Loading}
 use Rattle.container.specs.declared.Loaded as loaded

@@ -1,5 +1,5 @@
 -- What the functions of this crate promise of an answer: in arrays that are lent, and as a record.
-use Rattle.std.specs.Prelude.{ℕ, ◌-◌, ◌≡◌}
+use Rattle.std.specs.Prelude.{◌-◌, ◌≡◌}
 use Rattle.refusal.specs.declared.Outcome.{Outcome}
 use Rattle.refusal.specs.declared.Outcome.TheVariants.{Loaded, Refused}
 use Rattle.rules.specs.Tree.{Tree, default_tree}

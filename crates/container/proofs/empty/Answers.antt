@@ -1,7 +1,6 @@
 -- The default rule has a node. Assumes nothing.
 use Rattle.rules.specs.Tree.{default_tree}
 use Rattle.container.proofs.Stages.{some_nodes}
-use borrow.Author.Rules.{rules}
 use Rattle.container.proofs.empty.Goals as goal
 
 pub overflow_sub-result : goal.overflow_sub-result

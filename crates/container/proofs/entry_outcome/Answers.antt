@@ -1,7 +1,6 @@
 -- Case by case. Assumes nothing.
 use Rattle.promise.proofs.Told.{told}
 use Rattle.container.specs.Private.{read_outcome}
-use borrow.Author.Rules.{rules}
 use Rattle.container.proofs.entry_outcome.Goals as goal
 
 pub returns-in-Refused : goal.returns-in-Refused

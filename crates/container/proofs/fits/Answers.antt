@@ -1,6 +1,5 @@
 -- By cases of the count. Assumes nothing.
 use Rattle.container.proofs.Fitted.{given_fits}
-use borrow.Author.Rules.{rules}
 use Rattle.container.proofs.fits.Goals as goal
 
 pub returns-in-Given : goal.returns-in-Given

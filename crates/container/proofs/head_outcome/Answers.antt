@@ -3,7 +3,6 @@ use mathlib.Core.Path.{ap, ◌∙◌}
 use Rattle.promise.proofs.Told.{told}
 use Rattle.refusal.specs.declared.Outcome.TheVariants.{Refused}
 use Rattle.container.specs.Private.{head_outcome}
-use borrow.Author.Rules.{rules}
 use Rattle.container.proofs.head_outcome.Goals as goal
 
 pub returns-in-Refused : goal.returns-in-Refused

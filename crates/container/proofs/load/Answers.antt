@@ -3,7 +3,6 @@ use Prim.Native.Nat.{ℕ, ◌-◌}
 use mathlib.Core.Path.{ap}
 use Rattle.container.specs.Catalog as catalog
 use Rattle.container.proofs.Stages.{some_nodes}
-use borrow.Author.Rules.{rules}
 use Rattle.container.proofs.load.Goals as goal
 
 pub overflow_sub-result : goal.overflow_sub-result

@@ -2,7 +2,6 @@
 use mathlib.Core.Path.{refl}
 use borrow.Author.Tests.{not-true, not-false}
 use Rattle.container.proofs.Fitted.{not_asked, stays_refused, has_nodes, does_fit, does_not}
-use borrow.Author.Rules.{rules}
 use Rattle.container.proofs.load_into.Goals as goal
 
 pub returns-then-not-options : goal.returns-then-not-options

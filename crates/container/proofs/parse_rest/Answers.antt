@@ -1,8 +1,6 @@
-use borrow.Author.Rules.{rules}
-use Prim.Native.Nat.{◌-◌}
 use mathlib.Core.Path.{refl}
 use native.Mathlib.Omega.{arith}
-use Rattle.container.proofs.Rest.{Left, left_none, left_stop, left_more}
+use Rattle.container.proofs.Rest.{left_none, left_stop, left_more}
 use Rattle.container.proofs.parse_rest.Goals as goal
 
 pub loop-i-init : goal.loop-i-init

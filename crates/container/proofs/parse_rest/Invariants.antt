@@ -1,9 +1,6 @@
 -- The loop's invariant: the entries from i on decide. The measure is how many are left. Assumes nothing.
-use borrow.Author.Rules.{rules}
 use Prim.Native.Nat.{◌-◌}
-use mathlib.Core.Path.{refl}
-use native.Mathlib.Omega.{arith}
-use Rattle.container.proofs.Rest.{Left, left_none, left_stop, left_more}
+use Rattle.container.proofs.Rest.{Left}
 use Rattle.container.proofs.parse_rest.Given as goal
 
 abbrev pub invariant-loop-i : goal.invariant-loop-i
