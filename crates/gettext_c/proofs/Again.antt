@@ -6,12 +6,9 @@ use mathlib.Core.Path.{◌≡◌, refl, sym, ap, ◌∙◌}
 use mathlib.Core.List.{List}
 use native.Mathlib.Omega.{arith}
 use lib.ListN.{length, take}
-use Rattle.refusal.specs.Numbers.{number_of}
-use Rattle.refusal.specs.declared.Error.TheVariants as error
 use Rattle.refusal.specs.declared.Where.{Where}
 use Rattle.rules.specs.Tree.{Tree, default_tree}
 use Rattle.rules.specs.Pool.{Pool, tree_of}
-use Rattle.rules_text.specs.Bracketed.{bracketed}
 use Rattle.rules_text.specs.Writing.{writing_of}
 use Rattle.rules_text.specs.declared.Writing.{Writing}
 use Rattle.rules_text.specs.declared.Writing.TheVariants as writing

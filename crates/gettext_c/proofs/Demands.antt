@@ -11,7 +11,7 @@ use mathlib.Core.List.{List, []}
 use native.Mathlib.Omega.{arith}
 use lib.ListN.{length, get_or, take, drop}
 use contract.Lifetimes.{Lfts}
-use borrow.Fn.Kinds.{ParamKind, ResultKind, Dens, In}
+use borrow.Fn.Kinds.{ParamKind, Dens, In}
 use Rattle.text_trim.specs.Trim.{trim, white_space}
 use Rattle.text_utf8.specs.Utf8.{utf8}
 use Rattle.text_utf8.specs.Scalar.{Text}
@@ -23,7 +23,6 @@ use Rattle.refusal.specs.declared.Refusal.{Refusal}
 use Rattle.refusal.specs.declared.Error.TheVariants as error
 use Rattle.rules.specs.Tree.{Tree, default_tree}
 use Rattle.rules.specs.Value.{eval_tree, truth}
-use Rattle.rules.specs.Range.{rate_tree}
 use Rattle.rules.specs.Pool.{Pool}
 use Rattle.rules.specs.Pack.{packed, packed_size}
 use Rattle.rules.specs.Answer.{form_of, fitting, resolved_of, rated_of, fit_of}

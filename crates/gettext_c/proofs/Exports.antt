@@ -4,6 +4,7 @@ use mathlib.Core.Path.{◌≡◌, ap, ap₂, ◌∙◌}
 use mathlib.Core.List.{List}
 use lib.ListN.{length}
 use Rattle.refusal.specs.Numbers.{outcome_number}
+use Rattle.refusal.specs.declared.Outcome.{Outcome}
 use Rattle.refusal.specs.declared.Outcome.TheVariants.{Loaded}
 use Rattle.rules.specs.Tree.{default_tree}
 use Rattle.rules.specs.Pool.{Pool, tree_of}
@@ -46,7 +47,7 @@ loads a {r = r} h e f =
 pub loads_by : (f s : List ℕ) {o p : Options} {Q : Pool} {r : Loading} → o ≡ p → promise.Loads (load o f s) Q r → promise.Loads (load p f s) Q r
 loads_by f s e h = rw e at h
 
-pub empty_nodes : {Q : Pool} {r : Loading} → promise.Empties Loaded Q r → 0 < r.nodes
+pub empty_nodes : {b : Outcome} {Q : Pool} {r : Loading} → promise.Empties b Q r → 0 < r.nodes
 empty_nodes h = some_nodes default_tree h.nodes_are
 
 pub empties : {Q : Pool} {r : Loading} {q : loaded.Loaded} → promise.Empties Loaded Q r → q ≡ loaded_of r → host.tables_in q.head ≡ r.tables → IsEmpty Q q

@@ -2,18 +2,15 @@
 -- 11 cannot come for it and the bytes that it was loaded from. Assumes nothing.
 use Prim.Native.Nat.{ℕ, ◌-◌}
 use mathlib.Core.Path.{◌≡◌, refl, sym, ap, ◌∙◌}
-use mathlib.Core.Bool.{Bool, true, false}
+use mathlib.Core.Bool.{true}
 use mathlib.Core.List.{List}
 use native.Mathlib.Omega.{arith}
 use lib.ListN.{length, get_or}
-use lib.Dec.{eqb}
 use borrow.Author.Tests.{eq-eqb}
 use Rattle.text.proofs.Tests.{taken}
 use Rattle.refusal.specs.Numbers.{number_of, outcome_number}
 use Rattle.refusal.specs.declared.Error.{Error}
 use Rattle.refusal.specs.declared.Error.TheVariants as error
-use Rattle.refusal.specs.declared.Outcome.{Outcome}
-use Rattle.refusal.specs.declared.Outcome.TheVariants as outcome
 use Rattle.rules.specs.Value.{eval_tree}
 use Rattle.rules.specs.Range.{rate_tree, fits_range}
 use Rattle.rules.specs.Pool.{Pool, tree_of, is_tree}

@@ -2,13 +2,11 @@
 -- for this record and these bytes; in any slots an answer is the form's own segment of an entry with the key, or the fallback. Names are
 -- those of Demands.antt; `lent` are the slots before building, `slots` after it, and n its number. Assumes nothing.
 use Prim.{tt}
-use Prim.Native.Nat.{ℕ, ◌+◌, ◌^◌, ◌<◌, ◌≤◌}
+use Prim.Native.Nat.{ℕ, ◌^◌, ◌<◌, ◌≤◌}
 use mathlib.Core.Path.{◌≡◌, refl, sym, ap, ◌∙◌}
 use mathlib.Core.List.{List}
 use native.Mathlib.Omega.{arith}
 use lib.ListN.{length}
-use contract.Lifetimes.{Lfts}
-use borrow.Fn.Kinds.{ParamKind, Dens, In}
 use Rattle.refusal.specs.Numbers.{number_of}
 use Rattle.refusal.specs.declared.Error.TheVariants as error
 use Rattle.rules.specs.Pool.{Pool}
@@ -32,9 +30,9 @@ use Rattle.rules.specs.Answer.{resolved_of, fit_of}
 use Rattle.host.specs.declared.Loaded.{Loaded}
 use Rattle.host.specs.declared.Rating.{Rating}
 use Rattle.host.specs.declared.Fits.{Fits}
-use Rattle.gettext_c.specs.Record.{Loads, Indexes, counted, counted_in}
+use Rattle.gettext_c.specs.Record.{Loads, Indexes, counted_in}
 use Rattle.gettext_c.proofs.Fresh.{fresh_length}
-use Rattle.gettext_c.proofs.Demands.{AsksNothing, Yields, IsSegment, Kept, range, demand_3, demand_3_fits, Fitting}
+use Rattle.gettext_c.proofs.Demands.{AsksNothing, Yields, IsSegment, Kept, range, demand_3, demand_3_fits}
 use Rattle.gettext_c.proofs.gettext_c_slots.Reads as slots
 use Rattle.gettext_c.proofs.gettext_c_slots.Kinds as slots-kinds
 use Rattle.gettext_c.proofs.gettext_c_index.Reads as index

@@ -2,8 +2,8 @@
 -- names lies in the file. `answer_right`: with the record that the load of that very file returned, it is UTF-8. `empty_absent`: the
 -- empty record has none. `plural_inside` and so on say the same of a lookup with a count, and `slots_inside` and so on of one in any lent
 -- slots. All are over the answer as the host gets it; that the four lookups return it is in their contracts. Assumes nothing.
-use Prim.Native.Nat.{ℕ, zero, suc, ◌+◌, ◌<◌, ◌≤◌}
-use mathlib.Core.Path.{◌≡◌, refl, sym, ap, ◌∙◌}
+use Prim.Native.Nat.{ℕ, zero, suc, ◌+◌, ◌≤◌}
+use mathlib.Core.Path.{◌≡◌, refl, ap, ◌∙◌}
 use mathlib.Core.Bool.{true}
 use mathlib.Core.List.{List, [], ◌∷◌}
 use native.Mathlib.Omega.{arith}

@@ -1,6 +1,6 @@
 -- What a load leaves, as it is told. Assumes nothing.
 use Prim.Native.Nat.{ℕ, ◌-◌, ◌<◌}
-use mathlib.Core.Path.{◌≡◌, refl, sym, ap, ap₂, ◌∙◌}
+use mathlib.Core.Path.{◌≡◌, ap, ◌∙◌}
 use mathlib.Core.List.{List}
 use native.Mathlib.Omega.{arith}
 use Rattle.refusal.specs.declared.Refusal.{Refusal}
@@ -18,13 +18,13 @@ use Rattle.container.proofs.Few.{few}
 use Rattle.container.proofs.Stages.{some_nodes}
 use Rattle.mo_report.specs.Report as spec
 use Rattle.mo_report.specs.Report.{options, report_of}
-use Rattle.mo_report.specs.declared.Said.{Said}
 use Rattle.mo_report.specs.declared.Said.TheVariants as said
 
-module _ (s : List ℕ) {Q : Pool} {r : Loading} (h : Loads (load options s s) Q r) where
-  pub some : 0 < r.nodes
-  some = some_nodes (tree_in (load options s s)) h.nodes_are
+-- any load leaves a node
+pub some : (a : Answer) {Q : Pool} {r : Loading} → Loads a Q r → 0 < r.nodes
+some a h = some_nodes (tree_in a) h.nodes_are
 
+module _ (s : List ℕ) {Q : Pool} {r : Loading} (h : Loads (load options s s) Q r) where
   rates : {x : Rated} → x ≡ rated_of Q r.nodes (r.nodes - 1) → x ≡ range_of (rate_tree (tree_in (load options s s)))
   rates e = e ∙ held_rates (tree_in (load options s s)) (few options s s) h.rule_is h.nodes_are
 

@@ -1,7 +1,5 @@
 -- The empty catalog in numbers. Assumes nothing.
 use Rattle.gettext_c.proofs.Exports.{empty_nodes, empties}
-use borrow.Author.Rules.{rules}
-use Rattle.gettext_c.proofs.gettext_c_empty.Lts as lts
 use Rattle.gettext_c.proofs.gettext_c_empty.Goals as goal
 
 pub loaded_of-requires : goal.loaded_of-requires

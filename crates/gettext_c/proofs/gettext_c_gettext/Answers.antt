@@ -1,7 +1,7 @@
 -- The lookup's reason in numbers. Assumes nothing.
-use borrow.Author.Rules.{rules}
-use Rattle.gettext_c.proofs.gettext_c_gettext.Lts as lts
+use mathlib.Core.Path.{ap, ◌∙◌}
+use Rattle.host.specs.Host.{answer_of}
 use Rattle.gettext_c.proofs.gettext_c_gettext.Goals as goal
 
 pub returns : goal.returns
-returns c = simp (c.answer_of.ensures, c.find-reason.ensures, c.tables_in.ensures)
+returns c = c.answer_of.ensures ∙ ap (answer_of 1) (rw c.tables_in.ensures at c.find-reason.ensures)

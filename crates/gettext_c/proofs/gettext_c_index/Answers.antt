@@ -1,6 +1,5 @@
 -- The number of building, and what it left. Assumes nothing.
 use Rattle.gettext_c.proofs.Exports.{indexes}
-use borrow.Author.Rules.{rules}
 use Rattle.gettext_c.proofs.gettext_c_index.Goals as goal
 
 pub returns : goal.returns

@@ -1,7 +1,5 @@
 -- What `container` loads, in numbers. Assumes nothing.
 use Rattle.gettext_c.proofs.Exports.{loaded_nodes, loads, loads_by}
-use borrow.Author.Rules.{rules}
-use Rattle.gettext_c.proofs.gettext_c_load.Lts as lts
 use Rattle.gettext_c.proofs.gettext_c_load.Goals as goal
 
 pub loaded_of-requires : goal.loaded_of-requires

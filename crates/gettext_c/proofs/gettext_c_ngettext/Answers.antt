@@ -1,7 +1,7 @@
 -- The lookup's reason in numbers. Assumes nothing.
-use borrow.Author.Rules.{rules}
-use Rattle.gettext_c.proofs.gettext_c_ngettext.Lts as lts
+use mathlib.Core.Path.{ap₂, ◌∙◌}
+use Rattle.host.specs.Host.{answer_of}
 use Rattle.gettext_c.proofs.gettext_c_ngettext.Goals as goal
 
 pub returns : goal.returns
-returns c = simp (c.answer_of.ensures, c.nfind-reason.ensures, c.tables_in.ensures, c.own_for.ensures)
+returns c = c.answer_of.ensures ∙ ap₂ answer_of c.own_for.ensures (rw c.tables_in.ensures at c.nfind-reason.ensures)

@@ -1,5 +1,4 @@
 -- The lookup's reason in numbers. Assumes nothing.
-use borrow.Author.Rules.{rules}
 use Rattle.gettext_c.proofs.gettext_c_ngettext_indexed.Goals as goal
 
 pub returns : goal.returns

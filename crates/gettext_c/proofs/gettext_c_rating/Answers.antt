@@ -1,7 +1,7 @@
 -- The rating in numbers. Assumes nothing.
-use borrow.Author.Rules.{rules}
-use Rattle.gettext_c.proofs.gettext_c_rating.Lts as lts
+use mathlib.Core.Path.{ap, ◌∙◌}
+use Rattle.host.specs.Host.{rating_of}
 use Rattle.gettext_c.proofs.gettext_c_rating.Goals as goal
 
 pub returns : goal.returns
-returns c = simp (c.rating_of-2.ensures, c.rating_of.ensures)
+returns c = c.rating_of-2.ensures ∙ ap rating_of c.rating_of.ensures

@@ -1,5 +1,4 @@
 -- The count is the record's. Assumes nothing.
-use borrow.Author.Rules.{rules}
 use Rattle.gettext_c.proofs.gettext_c_slots.Goals as goal
 
 pub returns : goal.returns

@@ -1,8 +1,6 @@
 -- The number of what was counted, and the figures. Assumes nothing.
 use mathlib.Core.Path.{ap, ◌∙◌}
 use Rattle.rules_span.specs.Span as span
-use borrow.Author.Rules.{rules}
-use Rattle.gettext_c.proofs.gettext_c_span.Lts as lts
 use Rattle.gettext_c.proofs.gettext_c_span.Goals as goal
 
 pub returns : goal.returns

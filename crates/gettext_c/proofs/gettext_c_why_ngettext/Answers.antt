@@ -1,6 +1,4 @@
 -- The lookup's reason in numbers. Assumes nothing.
-use borrow.Author.Rules.{rules}
-use Rattle.gettext_c.proofs.gettext_c_why_ngettext.Lts as lts
 use Rattle.gettext_c.proofs.gettext_c_why_ngettext.Goals as goal
 
 pub returns : goal.returns

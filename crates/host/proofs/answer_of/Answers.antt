@@ -3,7 +3,6 @@ use mathlib.Core.Path.{◌∙◌, ap}
 use Rattle.promise.proofs.Told.{told}
 use Rattle.host.specs.Host.{fallback, answer_of}
 use Rattle.host.proofs.Answers.{not_answered}
-use borrow.Author.Rules.{rules}
 use Rattle.host.proofs.answer_of.Goals as goal
 
 pub returns-in_default : goal.returns-in_default

@@ -1,7 +1,6 @@
 -- Case by case. Assumes nothing.
 use mathlib.Core.Path.{◌∙◌}
 use Rattle.host.proofs.Explains.{explains}
-use borrow.Author.Rules.{rules}
 use Rattle.host.proofs.explained_of.Goals as goal
 
 pub returns-in-StaleLength : goal.returns-in-StaleLength

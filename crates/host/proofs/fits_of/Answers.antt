@@ -1,8 +1,6 @@
 -- Case by case. Assumes nothing.
 use Rattle.promise.proofs.Told.{told}
 use Rattle.host.specs.Host.{fits_of}
-use borrow.Author.Rules.{rules}
-use Rattle.host.proofs.fits_of.Lts as lts
 use Rattle.host.proofs.fits_of.Goals as goal
 
 pub returns-in-Yes : goal.returns-in-Yes

@@ -1,5 +1,4 @@
 -- The number, the place, the count and the head. Assumes nothing.
-use borrow.Author.Rules.{rules}
 use Rattle.host.proofs.loaded_of.Goals as goal
 
 pub returns : goal.returns

@@ -1,8 +1,6 @@
 -- Case by case. Assumes nothing.
 use Rattle.promise.proofs.Told.{told}
 use Rattle.host.specs.Host.{rating_of}
-use borrow.Author.Rules.{rules}
-use Rattle.host.proofs.rating_of.Lts as lts
 use Rattle.host.proofs.rating_of.Goals as goal
 
 pub returns-in-Range : goal.returns-in-Range
