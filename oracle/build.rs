@@ -1,4 +1,4 @@
-// Links the port's static library: from the folder that GETTEXT_RATTLE_LIB names, else from where `rt staticlib gettext_c` leaves it.
+// Links the port's static library: from the folder that GETTEXT_RATTLE_LIB names, else from where host/library leaves it.
 use std::env;
 use std::path::PathBuf;
 

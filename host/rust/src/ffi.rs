@@ -1,4 +1,4 @@
-//! The static library's functions and the layout of what they take and give, as crates/gettext_c/src/lib.rt has them. Each call is
+//! The static library's functions and the layout of what they take and give, as crates/gettext_c_c/src/lib.rt exports them. Each call is
 //! wrapped once, so that the rest of the crate calls safe functions.
 //!
 //! What makes every call here safe: the library asks nothing of the values that it is given (its functions have no `requires`), reads
@@ -7,8 +7,8 @@
 
 use std::mem::size_of;
 
-#[cfg(not(any(target_arch = "x86_64", target_arch = "aarch64")))]
-compile_error!("the static library is built for x86-64, or by host/library for aarch64");
+#[cfg(not(target_arch = "x86_64"))]
+compile_error!("the static library is built for x86-64");
 
 /// The head of a record: seven words, which the library takes as an array of seven.
 #[repr(C)]

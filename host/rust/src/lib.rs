@@ -42,7 +42,7 @@
 //! # Stack
 //!
 //! A thread of 256 KiB is enough for any load, and 32 KiB for every other call and for a load with the rule `n`, whatever the file and the rule. Of these, an unoptimized build took 238,256 and
-//! 26,304 bytes at most on Arm; tests/stack.rs makes the calls on stacks of just that size.
+//! 26,304 bytes at most on Arm, with an older build of the library; tests/stack.rs makes the calls on stacks of just that size.
 //!
 //! # What differs from gettext 0.4.0
 //!
