@@ -15,21 +15,19 @@ use Rattle.refusal.specs.declared.Refusal.{Refusal}
 use Rattle.refusal.specs.Places.{at}
 use Rattle.refusal.specs.declared.Error.TheVariants.{NotFit}
 use Rattle.refusal.specs.declared.Where.TheVariants.{File}
-use Rattle.refusal.specs.declared.Outcome.TheVariants as outcome
 use Rattle.rules.specs.Tree.{Tree}
 use Rattle.rules.specs.Pool.{Pool}
 use Rattle.reading_rule.specs.Plurals.{Parse, rule, norule}
-use Rattle.header_forms.specs.declared.Forms.{Forms}
+use Rattle.std.specs.Prelude.{Option, Some, Result, Ok, Err}
+use Rattle.refusal.specs.declared.Error.{Error}
+use Rattle.container_layout.specs.declared.Entry.{Entry}
 use Rattle.container_layout.specs.Mo.{entry, segments}
 use Rattle.container_layout.specs.declared.Tables.{Tables}
-use Rattle.container_layout.specs.declared.Entry.TheVariants as entries
 use Rattle.container_messages.specs.Messages.{read_at}
 use Rattle.container_messages.specs.declared.Read.{Read}
 use Rattle.container_messages.specs.declared.Read.TheVariants as read
 use Rattle.container_messages.proofs.Entries.{IsEntry, read_entry, read_right}
 use Rattle.container_head.specs.Head.{head_of}
-use Rattle.container_head.specs.declared.Head.{Head}
-use Rattle.container_head.specs.declared.Head.TheVariants as head
 use Rattle.container_head.proofs.Words.{Words, head_words}
 use Rattle.container_rule.specs.Rule.{forced_rule, file_forms}
 use Rattle.container.specs.Catalog.{and_then, entry_step, entries_from, Answer, accepted, refused, answered, catalog, load_with, opened, fits, fitted, load, tree_in}
@@ -38,26 +36,26 @@ use Rattle.container.specs.declared.Options.{Options}
 use Rattle.container.specs.declared.Loading.{Loading}
 
 -- a load that says so was accepted
-pub loaded_accepted : (a : Answer) {Q : Pool} {r : Loading} → Loads a Q r → r.outcome ≡ outcome.Loaded → a ≡ accepted r.tables (tree_in a) r.forms
+pub loaded_accepted : (a : Answer) {Q : Pool} {r : Loading} → Loads a Q r → r.outcome ≡ Ok tt → a ≡ accepted r.tables (tree_in a) r.forms
 loaded_accepted (accepted t u n) h e = rw (h.tables_are, h.forms_are)
 loaded_accepted (refused x) h e = absurd (let p = h.outcome_is in let z : ◌≡◌ {A = ℕ} 0 1 = cc in omega arith)
 
 -- an entry that is not refused
-abbrev Passes : Read → Type 0
-Passes q = (x : Refusal) → q ≡ read.Refused x → ⊥
+abbrev Passes : Result Read Refusal → Type 0
+Passes q = (x : Refusal) → q ≡ Err x → ⊥
 
 -- stages that end well, each did
-record Through (q : Read) (f : Tree → Parse) (u : Tree) : Type 0 where
+record Through (q : Result Read Refusal) (f : Tree → Parse) (u : Tree) : Type 0 where
   passes : Passes q
   from : Tree
   rest : f from ≡ rule u
 
 module _ (o : Options) (s : List ℕ) (t : Tables) where
-  passed : (r : Tree) (q : Read) (a : Parse) → entry_step o s r q ≡ a → (f : Tree → Parse) (u : Tree) → and_then a f ≡ rule u → Through q f u
+  passed : (r : Tree) (q : Result Read Refusal) (a : Parse) → entry_step o s r q ≡ a → (f : Tree → Parse) (u : Tree) → and_then a f ≡ rule u → Through q f u
   unfolding entry_step
-  passed r (read.Refused x) (rule v) e f u g = absurd (let z : ◌≡◌ {A = ℕ} 0 1 = cc in omega arith)
-  passed r read.Message (rule v) e f u g = record { passes = λ x p. let z : ◌≡◌ {A = ℕ} 0 1 = cc in omega arith; from = v; rest = g }
-  passed r (read.Header a l) (rule v) e f u g = record { passes = λ x p. let z : ◌≡◌ {A = ℕ} 0 1 = cc in omega arith; from = v; rest = g }
+  passed r (Err x) (rule v) e f u g = absurd (let z : ◌≡◌ {A = ℕ} 0 1 = cc in omega arith)
+  passed r (Ok read.Message) (rule v) e f u g = record { passes = λ x q. let z : ◌≡◌ {A = ℕ} 0 1 = cc in omega arith; from = v; rest = g }
+  passed r (Ok (read.Header p)) (rule v) e f u g = record { passes = λ x q. let z : ◌≡◌ {A = ℕ} 0 1 = cc in omega arith; from = v; rest = g }
   passed r q (norule x) e f u g = absurd (let z : ◌≡◌ {A = ℕ} 0 1 = cc in omega arith)
 
   all_passed : (k j : ℕ) (r u : Tree) → entries_from o s t k j r ≡ rule u → (i : ℕ) → j ≤ i → i < j + k → Passes (read_at s t i)
@@ -70,15 +68,15 @@ module _ (o : Options) (s : List ℕ) (t : Tables) where
       (λ q. all_passed k (suc j) p.from u p.rest i (omega (arith, eqb-false i j q)) (omega arith))
 
 -- where an accepted answer comes from: the head, the rule before the entries, the entries, and the count
-pub record Whole (o : Options) (f s : List ℕ) (t : Tables) (r : Tree) (n : Forms) : Type 0 where
-  pub head_is : head_of s ≡ head.Fields t
+pub record Whole (o : Options) (f s : List ℕ) (t : Tables) (r : Tree) (n : Option ℕ) : Type 0 where
+  pub head_is : head_of s ≡ Ok t
   pub before : Tree
   pub forced_is : forced_rule o.forced o.reading f ≡ rule before
   pub entries_are : entries_from o s t t.count 0 before ≡ rule r
   pub forms_are : file_forms s t ≡ n
 
-module _ (o : Options) (f s : List ℕ) {t : Tables} {r : Tree} {n : Forms} where
-  from_step : (w : Tree) → forced_rule o.forced o.reading f ≡ rule w → (u : Tables) → head_of s ≡ head.Fields u → (a : Parse) → entries_from o s u u.count 0 w ≡ a
+module _ (o : Options) (f s : List ℕ) {t : Tables} {r : Tree} {n : Option ℕ} where
+  from_step : (w : Tree) → forced_rule o.forced o.reading f ≡ rule w → (u : Tables) → head_of s ≡ Ok u → (a : Parse) → entries_from o s u u.count 0 w ≡ a
       → answered u (file_forms s u) a ≡ accepted t r n → Whole o f s t r n
   from_step w p u h (rule v) e g =
       let q : u ≡ t = cc in
@@ -87,9 +85,9 @@ module _ (o : Options) (f s : List ℕ) {t : Tables} {r : Tree} {n : Forms} wher
       record { head_is = rw (← q) h; before = w; forced_is = p; entries_are = rw (← q, ← z) e; forms_are = rw (← q) m }
   from_step w p u h (norule x) e g = absurd (let z : ◌≡◌ {A = ℕ} 0 1 = cc in omega arith)
 
-  from_head : (w : Tree) → forced_rule o.forced o.reading f ≡ rule w → (h : Head) → head_of s ≡ h → catalog o s w h ≡ accepted t r n → Whole o f s t r n
-  from_head w p (head.Fields u) e g = from_step w p u e (entries_from o s u u.count 0 w) refl g
-  from_head w p (head.Refused x) e g = absurd (let z : ◌≡◌ {A = ℕ} 0 1 = cc in omega arith)
+  from_head : (w : Tree) → forced_rule o.forced o.reading f ≡ rule w → (h : Result Tables Error) → head_of s ≡ h → catalog o s w h ≡ accepted t r n → Whole o f s t r n
+  from_head w p (Ok u) e g = from_step w p u e (entries_from o s u u.count 0 w) refl g
+  from_head w p (Err x) e g = absurd (let z : ◌≡◌ {A = ℕ} 0 1 = cc in omega arith)
 
   from_rule : (a : Parse) → forced_rule o.forced o.reading f ≡ a → load_with o s a ≡ accepted t r n → Whole o f s t r n
   from_rule (rule w) p g = from_head w p (head_of s) refl g
@@ -105,11 +103,11 @@ module _ (o : Options) (f s : List ℕ) {t : Tables} {r : Tree} {n : Forms} wher
       all_passed o s t t.count 0 w.before r w.entries_are i (omega arith) (omega arith)
 
 -- the last test: an answer that passed it, and that it was passed
-pub record Fitted (b : Bool) (a : Answer) (t : Tables) (r : Tree) (n : Forms) : Type 0 where
+pub record Fitted (b : Bool) (a : Answer) (t : Tables) (r : Tree) (n : Option ℕ) : Type 0 where
   pub is : a ≡ accepted t r n
   pub fitting : b ≡ true → fits r n ≡ true
 
-pub was_fitted : (b : Bool) (a : Answer) {t : Tables} {r : Tree} {n : Forms} → fitted b a ≡ accepted t r n → Fitted b a t r n
+pub was_fitted : (b : Bool) (a : Answer) {t : Tables} {r : Tree} {n : Option ℕ} → fitted b a ≡ accepted t r n → Fitted b a t r n
 was_fitted true (accepted u v m) {t} {r} {n} e =
     by_test (Fitted true (accepted u v m) t r n) (fits v m)
     (λ q.
@@ -122,7 +120,7 @@ was_fitted true (refused x) e = absurd (let z : ◌≡◌ {A = ℕ} 0 1 = cc in 
 was_fitted false a e = record { is = e; fitting = λ p. absurd (never p) }
 
 -- of an accepted file
-module _ (o : Options) (f s : List ℕ) {t : Tables} {r : Tree} {n : Forms} (e : load o f s ≡ accepted t r n) where
+module _ (o : Options) (f s : List ℕ) {t : Tables} {r : Tree} {n : Option ℕ} (e : load o f s ≡ accepted t r n) where
   pub accepted_fitted : Fitted o.fit (opened o f s) t r n
   unfolding load
   accepted_fitted = was_fitted o.fit (opened o f s) e
@@ -142,5 +140,5 @@ module _ (o : Options) (f s : List ℕ) {t : Tables} {r : Tree} {n : Forms} (e :
   every_entry i l = read_entry s t i (every_passed i l)
 
   -- and every segment of its translation is UTF-8
-  pub every_right : (i : ℕ) → i < t.count → {a n c m : ℕ} → entry s t i ≡ entries.At a n c m → every utf8 (segments s c m) ≡ true
+  pub every_right : (i : ℕ) → i < t.count → {a : Entry} → entry s t i ≡ Some a → every utf8 (segments s a.start a.len) ≡ true
   every_right i l g = read_right s t i (every_passed i l) g

@@ -19,11 +19,11 @@ use Rattle.reading_rule.specs.Plurals as plurals
 use Rattle.reading_rule.specs.Plurals.{Parse, rule, norule, read_as, is_ascii}
 use Rattle.reading_rule.specs.declared.Reading.{Reading}
 use Rattle.text.specs.declared.Stretch.{Stretch}
-use Rattle.text.specs.declared.Stretch.TheVariants as stretch
 use Rattle.header.specs.Header.{metadata}
 use Rattle.header.specs.declared.Metadata.{Metadata}
-use Rattle.header.specs.declared.Metadata.TheVariants as metadata
-use Rattle.header_forms.specs.declared.Forms.{Forms}
+use Rattle.std.specs.Prelude.{Option, Some, None, Result, Ok, Err}
+use Rattle.refusal.specs.declared.Error.{Error}
+use Rattle.refusal.specs.declared.Refusal.{Refusal}
 use Rattle.container_layout.specs.Mo.{segments}
 use Rattle.container_layout.specs.declared.Tables.{Tables}
 use Rattle.container_messages.specs.Messages.{read_at}
@@ -31,11 +31,8 @@ use Rattle.container_messages.specs.declared.Read.{Read}
 use Rattle.container_messages.specs.declared.Read.TheVariants as read
 use Rattle.container_messages.proofs.Before.{forget_read, read_forgotten}
 use Rattle.container_head.specs.Head.{head_of}
-use Rattle.container_head.specs.declared.Head.{Head}
-use Rattle.container_head.specs.declared.Head.TheVariants as head
 use Rattle.container_rule.specs.Rule as choice
-use Rattle.container_rule.specs.Rule.{label_ok, segment0, rule_at, rule_in, forced_rule, file_forms}
-use Rattle.container_rule.specs.declared.First.TheVariants as first
+use Rattle.container_rule.specs.Rule.{label_ok, segment0, rule_at, rule_by, rule_in, forced_rule, file_forms}
 use Rattle.container.specs.Catalog as catalog
 use Rattle.container.specs.Catalog.{header, entry_step}
 use Rattle.container.specs.Promise.{outcome_of}
@@ -72,24 +69,24 @@ parsed_same w reading s =
     ∙ ap (λ (x : Stage). elim (all is_ascii t) [ true ↦ x | false ↦ stops PluralParsing ]) (made_same w (read_as reading t)))
 
 module _ (o : Options) where
-  ruled_same : (h : List ℕ) (r : Tree) (p : Stretch) (n : Forms) → forget (rule_in o.reading h r (first.Rule p n)) ≡ ruled o h r p
-  ruled_same h r (stretch.At a l) n = parsed_same in_rule o.reading (take l (drop a h))
-  ruled_same h r stretch.Absent n = refl
+  ruled_same : (h : List ℕ) (r : Tree) (p : Option Stretch) → forget (rule_by o.reading h r p) ≡ ruled o h r p
+  ruled_same h r (Some p) = parsed_same in_rule o.reading (take p.len (drop p.start h))
+  ruled_same h r None = refl
 
-  known_same : (h : List ℕ) (r : Tree) (b : Bool) (p : Stretch) (n : Forms)
-      → forget (rule_in o.reading h r (elim b [ true ↦ first.Rule p n | false ↦ first.Refused (at in_header UnknownEncoding) ])) ≡ elim b [ true ↦ ruled o h r p | false ↦ stops UnknownEncoding ]
-  known_same h r true p n = ruled_same h r p n
+  known_same : (h : List ℕ) (r : Tree) (b : Bool) (p : Option Stretch) (n : Option ℕ)
+      → forget (rule_in o.reading h r (elim b [ true ↦ Ok (record { rule = p; forms = n }) | false ↦ Err (at in_header UnknownEncoding) ])) ≡ elim b [ true ↦ ruled o h r p | false ↦ stops UnknownEncoding ]
+  known_same h r true p n = ruled_same h r p
   known_same h r false p n = refl
 
-  headed_same : (h : List ℕ) (r : Tree) (m : Metadata) → forget (rule_in o.reading h r (choice.headed o.forced o.utf8 h m)) ≡ headed o h r m
-  headed_same h r metadata.Malformed = refl
-  headed_same h r (metadata.Fields label p n) = known_same h r (o.utf8 || label_ok h label) (elim o.forced [ true ↦ stretch.Absent | false ↦ p ]) n
+  headed_same : (h : List ℕ) (r : Tree) (m : Option Metadata) → forget (rule_in o.reading h r (choice.headed o.forced o.utf8 h m)) ≡ headed o h r m
+  headed_same h r None = refl
+  headed_same h r (Some m) = known_same h r (o.utf8 || label_ok h m.charset) (elim o.forced [ true ↦ None | false ↦ m.rule ]) m.forms
 
-  entry_same : (s : List ℕ) (r : Tree) (q : Read) → forget (entry_step o s r q) ≡ entry_of o s r (forget_read q)
+  entry_same : (s : List ℕ) (r : Tree) (q : Result Read Refusal) → forget (entry_step o s r q) ≡ entry_of o s r (forget_read q)
   unfolding entry_step header rule_at
-  entry_same s r (read.Refused e) = refl
-  entry_same s r read.Message = refl
-  entry_same s r (read.Header start len) = let h = segment0 (segments s start len) in headed_same h r (metadata h)
+  entry_same s r (Err e) = refl
+  entry_same s r (Ok read.Message) = refl
+  entry_same s r (Ok (read.Header p)) = let h = segment0 (segments s p.start p.len) in headed_same h r (metadata h)
 
   then_same : (p : Parse) (f : Tree → Parse) (g : Tree → Stage) → ((t : Tree) → forget (f t) ≡ g t) → forget (catalog.and_then p f) ≡ and_then (forget p) g
   then_same (rule t) f g h = h t
@@ -102,13 +99,13 @@ module _ (o : Options) where
       then_same (entry_step o s r (read_at s t i)) (catalog.entries_from o s t k (suc i)) (entries_from o s t k (suc i)) (entries_same s t k (suc i))
       ∙ ap (λ (q : Stage). and_then q (entries_from o s t k (suc i))) (entry_same s r (read_at s t i) ∙ ap (entry_of o s r) (read_forgotten s t i))
 
-  answered_same : (t : Tables) (n : Forms) (p : Parse) → forgetting (catalog.answered t n p) ≡ before.answered t (forget p)
+  answered_same : (t : Tables) (n : Option ℕ) (p : Parse) → forgetting (catalog.answered t n p) ≡ before.answered t (forget p)
   answered_same t n (rule r) = refl
   answered_same t n (norule e) = refl
 
-  catalog_same : (s : List ℕ) (r : Tree) (h : Head) → forgetting (catalog.catalog o s r h) ≡ before.catalog o s r h
-  catalog_same s r (head.Fields t) = answered_same t (file_forms s t) (catalog.entries_from o s t t.count 0 r) ∙ ap (before.answered t) (entries_same s t t.count 0 r)
-  catalog_same s r (head.Refused e) = refl
+  catalog_same : (s : List ℕ) (r : Tree) (h : Result Tables Error) → forgetting (catalog.catalog o s r h) ≡ before.catalog o s r h
+  catalog_same s r (Ok t) = answered_same t (file_forms s t) (catalog.entries_from o s t t.count 0 r) ∙ ap (before.answered t) (entries_same s t t.count 0 r)
+  catalog_same s r (Err e) = refl
 
   with_same : (s : List ℕ) (p : Parse) → forgetting (catalog.load_with o s p) ≡ before.load_with o s (forget p)
   with_same s (rule r) = catalog_same s r (head_of s)

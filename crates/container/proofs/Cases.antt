@@ -4,7 +4,9 @@ use Prim.Native.Nat.{ℕ, zero, suc}
 use mathlib.Core.Path.{◌≡◌, refl}
 use mathlib.Core.Bool.{Bool, true, false}
 use mathlib.Core.List.{List, [], ◌∷◌, ◌++◌, map}
-use mathlib.Core.Option.{Option, none, some}
+use Rattle.std.specs.Prelude.{Option, Some, None}
+use Rattle.text.specs.declared.Stretch.{Stretch}
+use Rattle.container_layout.specs.declared.Entry as layout
 use lib.ListN.{length, take, set, replicate}
 use lib.Dec.{ltb}
 use Rattle.text_utf8.specs.Utf8.{utf8, rest}
@@ -14,8 +16,6 @@ use Rattle.text.specs.Cut.{cut, every}
 use Rattle.header_fields.specs.Fields.{named, last_of}
 use Rattle.text_digits.specs.Digits.{digits_from}
 use Rattle.header_forms.specs.Forms.{count_in, last_count, form_count}
-use Rattle.header_forms.specs.declared.Forms.{Forms}
-use Rattle.header_forms.specs.declared.Forms.TheVariants.{Given, Absent}
 use Rattle.header.specs.Header.{charset, plural, metadata, utf8_label}
 use Rattle.rules.specs.Range.{rate_tree, bin_range, op_range, cond_range, not_range, fits_range}
 use Rattle.reading_grammar.specs.Tokens.{tokens, lex}
@@ -24,8 +24,6 @@ use Rattle.reading_rule.specs.Plurals.{parsed, tested, made}
 use Rattle.reading_rule.specs.declared.Reading.TheVariants.{Standard}
 use Rattle.container_layout.specs.Mo.{word, string, context_end, id_start, id_end, context, id, entry, piece_at, segment}
 use Rattle.container_layout.specs.declared.Tables.{Tables}
-use Rattle.text.specs.declared.Stretch.TheVariants as stretch
-use Rattle.container_layout.specs.declared.Entry.TheVariants as entries
 use Rattle.refusal.specs.Numbers.{number_of}
 use Rattle.refusal.specs.declared.Where.{Where}
 use Rattle.refusal.specs.declared.Where.TheVariants.{File, Forced, Entry}
@@ -62,10 +60,10 @@ pub record Seen : Type 0 where
   pub place : Option Where
 
 abbrev loads : ℕ → Seen
-loads k = record { number = 0; count = k; place = none }
+loads k = record { number = 0; count = k; place = None }
 
 abbrev fails : ℕ → Where → Seen
-fails n w = record { number = n; count = 0; place = some w }
+fails n w = record { number = n; count = 0; place = Some w }
 
 abbrev pub seen : Answer → Seen
 seen (accepted t r n) = loads t.count
@@ -125,52 +123,52 @@ forced_fails = refl
 abbrev fitting : Bool → List ℕ → List ℕ → Answer
 fitting fit forced s = load (record { forced = ltb 0 (length forced); reading = Standard; utf8 = false; fit = fit }) forced s
 
-abbrev kept : Answer → ℕ × Forms
+abbrev kept : Answer → ℕ × Option ℕ
 kept (accepted t r n) = (0, n)
-kept (refused r) = (number_of r.error, Absent)
+kept (refused r) = (number_of r.error, None)
 
 pub record FitRow : Type 0 where
   pub forms : List ℕ
   pub forced : List ℕ
   pub number : ℕ
-  pub count : Forms
+  pub count : Option ℕ
 
-abbrev header_row : List ℕ → ℕ → Forms → FitRow
+abbrev header_row : List ℕ → ℕ → Option ℕ → FitRow
 header_row h x n = record { forms = h; forced = []; number = x; count = n }
 
-abbrev forced_row : List ℕ → List ℕ → ℕ → Forms → FitRow
+abbrev forced_row : List ℕ → List ℕ → ℕ → Option ℕ → FitRow
 forced_row f h x n = record { forms = h; forced = f; number = x; count = n }
 
 abbrev pub fit_rows : List FitRow
 fit_rows =
-    header_row (bytes "nplurals=2;plural=n!=1") 0 (Given 2)
-    ∷ header_row (bytes "nplurals=3;plural=n%3") 0 (Given 3)
+    header_row (bytes "nplurals=2;plural=n!=1") 0 (Some 2)
+    ∷ header_row (bytes "nplurals=3;plural=n%3") 0 (Some 3)
     -- the highest has to be below the count
-    ∷ header_row (bytes "nplurals=2;plural=n%3") 13 (Given 2)
-    ∷ header_row (bytes "nplurals=18446744073709551615;plural=n") 13 (Given 18446744073709551615)
+    ∷ header_row (bytes "nplurals=2;plural=n%3") 13 (Some 2)
+    ∷ header_row (bytes "nplurals=18446744073709551615;plural=n") 13 (Some 18446744073709551615)
     -- nothing fits 0, and a rule without a range fits nothing
-    ∷ header_row (bytes "nplurals=0;plural=0") 13 (Given 0)
-    ∷ header_row (bytes "nplurals=9;plural=5%n") 13 (Given 9)
+    ∷ header_row (bytes "nplurals=0;plural=0") 13 (Some 0)
+    ∷ header_row (bytes "nplurals=9;plural=5%n") 13 (Some 9)
     -- the default rule
-    ∷ header_row (bytes "nplurals=2") 0 (Given 2)
-    ∷ header_row (bytes "nplurals=1") 13 (Given 1)
+    ∷ header_row (bytes "nplurals=2") 0 (Some 2)
+    ∷ header_row (bytes "nplurals=1") 13 (Some 1)
     -- no count
-    ∷ header_row (bytes "plural=0") 13 Absent
-    ∷ header_row (bytes "nplurals=+1;plural=0") 13 Absent
-    ∷ header_row (bytes "") 13 Absent
+    ∷ header_row (bytes "plural=0") 13 None
+    ∷ header_row (bytes "nplurals=+1;plural=0") 13 None
+    ∷ header_row (bytes "") 13 None
     -- the last well-formed one
-    ∷ header_row (bytes "nplurals=1;plural=n!=1;nplurals=2;nplurals=x") 0 (Given 2)
+    ∷ header_row (bytes "nplurals=1;plural=n!=1;nplurals=2;nplurals=x") 0 (Some 2)
     -- a forced rule: the header's is not read, its count is
-    ∷ forced_row (bytes "n!=1") (bytes "nplurals=2;plural=(") 0 (Given 2)
-    ∷ forced_row (bytes "n%3") (bytes "nplurals=2;plural=0") 13 (Given 2)
+    ∷ forced_row (bytes "n!=1") (bytes "nplurals=2;plural=(") 0 (Some 2)
+    ∷ forced_row (bytes "n%3") (bytes "nplurals=2;plural=0") 13 (Some 2)
     ∷ []
 
 abbrev pub with_forms : List ℕ → List ℕ
 with_forms v = with_header (bytes "Plural-Forms:" ++ v)
 
-abbrev if_0 : ℕ → Forms → Forms
+abbrev if_0 : ℕ → Option ℕ → Option ℕ
 if_0 zero n = n
-if_0 (suc x) n = Absent
+if_0 (suc x) n = None
 
 pub fit_rows_hold :
     (map (λ r. kept (fitting true r.forced (with_forms r.forms))) fit_rows ≡ map (λ r. (r.number, if_0 r.number r.count)) fit_rows)
@@ -198,8 +196,14 @@ last_of_all = (refl, refl, refl, refl, refl)
 abbrev tables_f : ℕ → Tables
 tables_f n = record { length = n; big = false; count = 1; originals = 28; translations = 36 }
 
-pub places_hold : (entry file_f (tables_f 48) 0 ≡ entries.At 44 1 46 1) × (entry file_g (tables_f 50) 0 ≡ entries.At 44 1 46 3)
-    × (segment file_f 46 1 0 ≡ stretch.At 46 1) × (segment file_f 46 1 1 ≡ stretch.Absent)
-    × (segment file_g 46 3 0 ≡ stretch.At 46 1) × (segment file_g 46 3 1 ≡ stretch.At 48 1) × (segment file_g 46 3 18446744073709551616 ≡ stretch.Absent)
+abbrev stretch_at : ℕ → ℕ → Option Stretch
+stretch_at start len = Some (record { start = start; len = len })
+
+abbrev entry_at : ℕ → ℕ → ℕ → ℕ → Option layout.Entry
+entry_at key key_len start len = Some (record { key = key; key_len = key_len; start = start; len = len })
+
+pub places_hold : (entry file_f (tables_f 48) 0 ≡ entry_at 44 1 46 1) × (entry file_g (tables_f 50) 0 ≡ entry_at 44 1 46 3)
+    × (segment file_f 46 1 0 ≡ stretch_at 46 1) × (segment file_f 46 1 1 ≡ None)
+    × (segment file_g 46 3 0 ≡ stretch_at 46 1) × (segment file_g 46 3 1 ≡ stretch_at 48 1) × (segment file_g 46 3 18446744073709551616 ≡ None)
 unfolding entry word string id_start id_end front segment piece_at cut
 places_hold = (refl, refl, refl, refl, refl, refl, refl)

@@ -15,16 +15,13 @@ use Rattle.refusal.specs.declared.Where.TheVariants.{File, Forced}
 use Rattle.refusal.specs.declared.Error.TheVariants.{UnknownEncoding, NotFit}
 use Rattle.rules.specs.Tree.{Tree, default_tree}
 use Rattle.rules.specs.Range.{rate_tree, fits_range}
-use Rattle.rules.specs.declared.Rating.{Rating}
-use Rattle.rules.specs.declared.Rating.TheVariants as rating
 use Rattle.reading_rule.specs.Plurals.{Parse, rule, norule, parsed}
 use Rattle.text.specs.declared.Stretch.{Stretch}
-use Rattle.text.specs.declared.Stretch.TheVariants as stretch
 use Rattle.header.specs.Header.{metadata}
 use Rattle.header.specs.declared.Metadata.{Metadata}
-use Rattle.header.specs.declared.Metadata.TheVariants.{Malformed, Fields}
-use Rattle.header_forms.specs.declared.Forms.{Forms}
-use Rattle.header_forms.specs.declared.Forms.TheVariants as forms
+use Rattle.std.specs.Prelude.{Option, Some, None, Result, Ok, Err}
+use Rattle.refusal.specs.declared.Error.{Error}
+use Rattle.container_rule.specs.declared.First.{First}
 use Rattle.container_layout.specs.Mo.{original, id, segments}
 use Rattle.container_layout.specs.declared.Tables.{Tables}
 use Rattle.container_messages.specs.Messages.{read_at}
@@ -32,11 +29,8 @@ use Rattle.container_messages.specs.Good.{Good}
 use Rattle.container_messages.specs.declared.Read.TheVariants as read
 use Rattle.container_messages.proofs.Accepts.{read_good, good_header, good_message, good_either}
 use Rattle.container_head.specs.Head.{head_of}
-use Rattle.container_head.specs.declared.Head.{Head}
-use Rattle.container_head.specs.declared.Head.TheVariants as head
 use Rattle.container_head.proofs.Words.{head_words, words_head}
-use Rattle.container_rule.specs.Rule.{forced_rule, label_ok, headed, rule_at, segment0, rule_in, count_of, forms_read, forms_from, file_forms}
-use Rattle.container_rule.specs.declared.First.TheVariants as first
+use Rattle.container_rule.specs.Rule.{forced_rule, label_ok, headed, rule_at, segment0, rule_by, rule_in, count_of, forms_read, forms_from, file_forms}
 use Rattle.container.specs.Catalog.{and_then, header, entry_step, entries_from, Answer, accepted, refused, answered, catalog, load_with, opened, fits, fitted, load}
 use Rattle.container.specs.Accepts.{IsHeader, Fine, Counts, forced, given, absent, headless, Carries, by_header, no_header, Sound, Fits, Accepts, Fails, by_forced, by_head, by_entry, by_fit}
 use Rattle.container.specs.declared.Options.{Options}
@@ -67,50 +61,52 @@ then_rule (norule x) f e = absurd (never e)
 
 -- the header's rule: where the header hands on a rule, it is fine, and the rule is the one before where one is forced or none is given
 record HandsOn (o : Options) (h : List ℕ) (r u : Tree) : Type 0 where
-  lies : Stretch
+  lies : Option Stretch
   fine : Fine o h lies
   if_forced : o.forced ≡ true → u ≡ r
-  if_given : (a l : ℕ) → o.forced ≡ false → lies ≡ stretch.At a l → parsed in_rule o.reading (take l (drop a h)) ≡ rule u
-  if_absent : o.forced ≡ false → lies ≡ stretch.Absent → u ≡ r
+  if_given : (q : Stretch) → o.forced ≡ false → lies ≡ Some q → parsed in_rule o.reading (take q.len (drop q.start h)) ≡ rule u
+  if_absent : o.forced ≡ false → lies ≡ None → u ≡ r
 
 module _ (o : Options) (h : List ℕ) (r u : Tree) where
-  by_fields : (m : Metadata) → metadata h ≡ m → rule_in o.reading h r (headed o.forced o.utf8 h m) ≡ rule u → HandsOn o h r u
-  by_fields Malformed e g = absurd (never g)
-  by_fields (Fields label p n) e g =
-      by_test (HandsOn o h r u) (o.utf8 || label_ok h label)
-      (λ k. let w : rule_in o.reading h r (first.Rule (elim o.forced [ true ↦ stretch.Absent | false ↦ p ]) n) ≡ rule u =
-      sym (ap (rule_in o.reading h r) (taken (first.Rule (elim o.forced [ true ↦ stretch.Absent | false ↦ p ]) n) (first.Refused (at in_header UnknownEncoding)) k)) ∙ g in
+  abbrev first_at : Metadata → First
+  first_at m = record { rule = elim o.forced [ true ↦ None | false ↦ m.rule ]; forms = m.forms }
+
+  by_fields : (x : Option Metadata) → metadata h ≡ x → rule_in o.reading h r (headed o.forced o.utf8 h x) ≡ rule u → HandsOn o h r u
+  by_fields None e g = absurd (never g)
+  by_fields (Some m) e g =
+      by_test (HandsOn o h r u) (o.utf8 || label_ok h m.charset)
+      (λ k. let w : rule_by o.reading h r (elim o.forced [ true ↦ None | false ↦ m.rule ]) ≡ rule u = sym (ap (rule_in o.reading h r) (taken (Ok (first_at m)) (Err (at in_header UnknownEncoding)) k)) ∙ g in
       record {
-        lies = p;
-        fine = record { label = label; forms = n; fields = e; known = k };
-        if_forced = λ t. same_rule (sym (sym (ap (λ (q : Stretch). rule_in o.reading h r (first.Rule q n)) (taken stretch.Absent p t)) ∙ w));
-        if_given = λ a l t q. sym (ap (λ (x : Stretch). rule_in o.reading h r (first.Rule x n)) (left stretch.Absent p t ∙ q)) ∙ w;
-        if_absent = λ t q. same_rule (sym (sym (ap (λ (x : Stretch). rule_in o.reading h r (first.Rule x n)) (left stretch.Absent p t ∙ q)) ∙ w));
+        lies = m.rule;
+        fine = record { label = m.charset; forms = m.forms; fields = e; known = k };
+        if_forced = λ t. same_rule (sym (sym (ap (rule_by o.reading h r) (taken None m.rule t)) ∙ w));
+        if_given = λ q t y. sym (ap (rule_by o.reading h r) (left None m.rule t ∙ y)) ∙ w;
+        if_absent = λ t y. same_rule (sym (sym (ap (rule_by o.reading h r) (left None m.rule t ∙ y)) ∙ w));
       })
-      (λ k. absurd (never (sym (ap (rule_in o.reading h r) (left (first.Rule (elim o.forced [ true ↦ stretch.Absent | false ↦ p ]) n) (first.Refused (at in_header UnknownEncoding)) k)) ∙ g)))
+      (λ k. absurd (never (sym (ap (rule_in o.reading h r) (left (Ok (first_at m)) (Err (at in_header UnknownEncoding)) k)) ∙ g)))
 
   hands_on : header o h r ≡ rule u → HandsOn o h r u
   unfolding header rule_at
   hands_on g = by_fields (metadata h) refl g
 
 -- and back: a fine header hands on
-module _ (o : Options) (h : List ℕ) (r : Tree) {p : Stretch} (w : Fine o h p) where
-  at_rule : header o h r ≡ rule_in o.reading h r (first.Rule (elim o.forced [ true ↦ stretch.Absent | false ↦ p ]) w.forms)
+module _ (o : Options) (h : List ℕ) (r : Tree) {p : Option Stretch} (w : Fine o h p) where
+  at_rule : header o h r ≡ rule_by o.reading h r (elim o.forced [ true ↦ None | false ↦ p ])
   unfolding header rule_at
   at_rule =
-      ap (λ (m : Metadata). rule_in o.reading h r (headed o.forced o.utf8 h m)) w.fields
-      ∙ ap (rule_in o.reading h r) (taken (first.Rule (elim o.forced [ true ↦ stretch.Absent | false ↦ p ]) w.forms) (first.Refused (at in_header UnknownEncoding)) w.known)
+      ap (λ (m : Option Metadata). rule_in o.reading h r (headed o.forced o.utf8 h m)) w.fields
+      ∙ ap (rule_in o.reading h r) (taken (Ok (record { rule = elim o.forced [ true ↦ None | false ↦ p ]; forms = w.forms })) (Err (at in_header UnknownEncoding)) w.known)
 
   forced_on : o.forced ≡ true → header o h r ≡ rule r
-  forced_on t = at_rule ∙ ap (λ (q : Stretch). rule_in o.reading h r (first.Rule q w.forms)) (taken stretch.Absent p t)
+  forced_on t = at_rule ∙ ap (rule_by o.reading h r) (taken None p t)
 
-  given_on : o.forced ≡ false → {q : Stretch} → p ≡ q → header o h r ≡ rule_in o.reading h r (first.Rule q w.forms)
-  given_on t e = at_rule ∙ ap (λ (q : Stretch). rule_in o.reading h r (first.Rule q w.forms)) (left stretch.Absent p t ∙ e)
+  given_on : o.forced ≡ false → {q : Option Stretch} → p ≡ q → header o h r ≡ rule_by o.reading h r q
+  given_on t e = at_rule ∙ ap (rule_by o.reading h r) (left None p t ∙ e)
 
 -- an entry has its facts in one way only, and a file one header
 module _ (s : List ℕ) (t : Tables) where
-  same_at : {a l b m : ℕ} → stretch.At a l ≡ stretch.At b m → (a ≡ b) × (l ≡ m)
-  same_at e = (cc, cc)
+  same_at : {p q : Stretch} → Some p ≡ Some q → (p.start ≡ q.start) × (p.len ≡ q.len)
+  same_at {p} {q} e = let x : p ≡ q = cc in (ap (λ (y : Stretch). y.start) x, ap (λ (y : Stretch). y.len) x)
 
   same_id : {i : ℕ} (g k : Good s t i) → id (original s g.at g.len) ≡ id (original s k.at k.len)
   same_id g k =
@@ -122,7 +118,7 @@ module _ (s : List ℕ) (t : Tables) where
       let e = same_at (sym a.good.translation_lies ∙ b.good.translation_lies) in
       a.is ∙ ap₂ (λ (x y : ℕ). segment0 (segments s x y)) e.0 e.1 ∙ sym b.is
 
-  header_read : {h : List ℕ} (w : IsHeader s t h) → read_at s t 0 ≡ read.Header w.good.start w.good.size
+  header_read : {h : List ℕ} (w : IsHeader s t h) → read_at s t 0 ≡ Ok (read.Header (record { start = w.good.start; len = w.good.size }))
   header_read w = good_header s t 0 w.good w.empty
 
   header_step : (o : Options) (r : Tree) {h : List ℕ} (w : IsHeader s t h) → entry_step o s r (read_at s t 0) ≡ header o h r
@@ -143,7 +139,7 @@ module _ (s : List ℕ) (t : Tables) where
       ∙ rest_good o k (suc i) r (omega arith) (λ j l m. g j (omega arith) (omega arith))
 
   -- the count of the file: that of its header, or none
-  header_forms : {h : List ℕ} → IsHeader s t h → {label p : Stretch} {n : Forms} → metadata h ≡ Fields label p n → file_forms s t ≡ n
+  header_forms : {h : List ℕ} → IsHeader s t h → {label p : Option Stretch} {n : Option ℕ} → metadata h ≡ Some (record { charset = label; rule = p; forms = n }) → file_forms s t ≡ n
   unfolding file_forms
   header_forms {h} w {label} {p} {n} g = by_count t.count refl
     where
@@ -151,19 +147,19 @@ module _ (s : List ℕ) (t : Tables) where
       by_count zero c = absurd (omega (arith, w.some))
       by_count (suc k) c = ap (forms_read s) (header_read w) ∙ ap (λ (x : List ℕ). count_of (metadata x)) (sym w.is) ∙ ap count_of g
 
-  none_forms : t.count ≡ 0 → file_forms s t ≡ forms.Absent
+  none_forms : t.count ≡ 0 → file_forms s t ≡ None
   unfolding file_forms
   none_forms c = ap (forms_from s t) c
 
-  message_forms : 0 < t.count → (g : Good s t 0) → (id (original s g.at g.len) ≡ [] → ⊥) → file_forms s t ≡ forms.Absent
+  message_forms : 0 < t.count → (g : Good s t 0) → (id (original s g.at g.len) ≡ [] → ⊥) → file_forms s t ≡ None
   unfolding file_forms
   message_forms l g m = by_count t.count refl
     where
-      by_count : (k : ℕ) → t.count ≡ k → forms_from s t k ≡ forms.Absent
+      by_count : (k : ℕ) → t.count ≡ k → forms_from s t k ≡ None
       by_count zero c = absurd (omega arith)
       by_count (suc k) c = ap (forms_read s) (good_message s t 0 g m)
 
-module _ (o : Options) (f s : List ℕ) (t : Tables) (r : Tree) (n : Forms) where
+module _ (o : Options) (f s : List ℕ) (t : Tables) (r : Tree) (n : Option ℕ) where
   -- from the load to the facts
   module _ (e : opened o f s ≡ accepted t r n) where
     whole : Whole o f s t r n
@@ -225,15 +221,12 @@ module _ (o : Options) (f s : List ℕ) (t : Tables) (r : Tree) (n : Forms) wher
     given_rule : o.forced ≡ false → (l : 0 < t.count) → id (original s (good 0 l).at (good 0 l).len) ≡ [] → Counts o f s t r
     given_rule q l z = by_place (handed (is_header l z)).lies refl
       where
-        by_place : (p : Stretch) → (handed (is_header l z)).lies ≡ p → Counts o f s t r
-        by_place (stretch.At a m) x = given q (is_header l z) (fine_at x) ((handed (is_header l z)).if_given a m q x)
-          where
-            fine_at : (handed (is_header l z)).lies ≡ stretch.At a m → Fine o (its_header l) (stretch.At a m)
-            fine_at y = rw y at (handed (is_header l z)).fine
-        by_place stretch.Absent x = absent q (is_header l z) (fine_no x) ((handed (is_header l z)).if_absent q x ∙ not_forced q)
-          where
-            fine_no : (handed (is_header l z)).lies ≡ stretch.Absent → Fine o (its_header l) stretch.Absent
-            fine_no y = rw y at (handed (is_header l z)).fine
+        fine_at : {p : Option Stretch} → (handed (is_header l z)).lies ≡ p → Fine o (its_header l) p
+        fine_at y = rw y at (handed (is_header l z)).fine
+
+        by_place : (p : Option Stretch) → (handed (is_header l z)).lies ≡ p → Counts o f s t r
+        by_place (Some p) x = given q (is_header l z) (fine_at x) ((handed (is_header l z)).if_given p q x)
+        by_place None x = absent q (is_header l z) (fine_at x) ((handed (is_header l z)).if_absent q x ∙ not_forced q)
 
     counts : Counts o f s t r
     counts = by_test (Counts o f s t r) o.forced (λ q. forced q (is_forced q ∙ ap rule (forced_rule_lem q))) (λ q. by_count t.count refl q)
@@ -253,7 +246,7 @@ module _ (o : Options) (f s : List ℕ) (t : Tables) (r : Tree) (n : Forms) wher
         by_count (suc k) c =
             let l : 0 < t.count = omega arith in
             good_either s t 0 (good 0 l)
-            (λ z. let w = is_header l z in let g = (handed w).fine in by_header w (g.fields ∙ ap (Fields g.label (handed w).lies) (sym (header_forms s t w g.fields) ∙ whole.forms_are)))
+            (λ z. let w = is_header l z in let g = (handed w).fine in by_header w (g.fields ∙ ap (λ (m : Option ℕ). Some (record { charset = g.label; rule = (handed w).lies; forms = m })) (sym (header_forms s t w g.fields) ∙ whole.forms_are)))
             (λ m. no_header (λ h w. m (same_id s t (good 0 l) w.good ∙ w.empty)) (sym whole.forms_are ∙ message_forms s t l (good 0 l) m))
 
     pub opened_facts : Sound o f s t r n
@@ -269,7 +262,7 @@ module _ (o : Options) (f s : List ℕ) (t : Tables) (r : Tree) (n : Forms) wher
 
   -- from the facts to the load
   module _ (w : Sound o f s t r n) where
-    head_is : head_of s ≡ head.Fields t
+    head_is : head_of s ≡ Ok t
     head_is =
         let h = w.headed in
         words_head s (record { order = h.order; is = h.words; long = h.long; inside = (h.originals_in, h.translations_in) })
@@ -358,20 +351,20 @@ module _ (o : Options) (f s : List ℕ) (t : Tables) (r : Tree) (n : Forms) wher
 
 -- the last test
 module _ (r : Tree) where
-  rated_fits : (q : Rating) (k : ℕ) → rate_tree r ≡ q → fits_range q k ≡ true → Fits r (forms.Given k)
+  rated_fits : (q : Option (ℕ × ℕ)) (k : ℕ) → rate_tree r ≡ q → fits_range q k ≡ true → Fits r (Some k)
   unfolding fits_range
-  rated_fits (rating.Range l h) k e g = record { count = k; given = refl; lowest = l; highest = h; rated = e; below = ltb-true h k g }
-  rated_fits rating.Unrated k e g = absurd (no_truth g)
+  rated_fits (Some (l, h)) k e g = record { count = k; given = refl; lowest = l; highest = h; rated = e; below = ltb-true h k g }
+  rated_fits None k e g = absurd (no_truth g)
 
-  pub fits_facts : (n : Forms) → fits r n ≡ true → Fits r n
-  fits_facts (forms.Given k) e = rated_fits (rate_tree r) k refl e
-  fits_facts forms.Absent e = absurd (no_truth e)
+  pub fits_facts : (n : Option ℕ) → fits r n ≡ true → Fits r n
+  fits_facts (Some k) e = rated_fits (rate_tree r) k refl e
+  fits_facts None e = absurd (no_truth e)
 
-  pub facts_fit : {n : Forms} → Fits r n → fits r n ≡ true
+  pub facts_fit : {n : Option ℕ} → Fits r n → fits r n ≡ true
   unfolding fits_range
-  facts_fit w = ap (fits r) w.given ∙ ap (λ (q : Rating). fits_range q w.count) w.rated ∙ lt-ltb w.highest w.count w.below
+  facts_fit w = ap (fits r) w.given ∙ ap (λ (q : Option (ℕ × ℕ)). fits_range q w.count) w.rated ∙ lt-ltb w.highest w.count w.below
 
-module _ (o : Options) (f s : List ℕ) (t : Tables) (r : Tree) (n : Forms) where
+module _ (o : Options) (f s : List ℕ) (t : Tables) (r : Tree) (n : Option ℕ) where
   accepted_facts : load o f s ≡ accepted t r n → Accepts o f s t r n
   accepted_facts e =
       let w = accepted_fitted o f s e in
@@ -436,13 +429,13 @@ module _ (o : Options) (s : List ℕ) (t : Tables) (e : Refusal) where
       ∙ stopped j m (suc i) w.from u w.rest (ap (λ (k : ℕ). entry_step o s u (read_at s t k)) z ∙ q)
 
 module _ (o : Options) (f s : List ℕ) (e : Refusal) where
-  never_accepted : {t : Tables} {r : Tree} {n : Forms} → accepted t r n ≡ refused e → ⊥
+  never_accepted : {t : Tables} {r : Tree} {n : Option ℕ} → accepted t r n ≡ refused e → ⊥
   never_accepted p = let z : ◌≡◌ {A = ℕ} 0 1 = cc in omega arith
 
   same_refusal : {x : Refusal} → refused x ≡ refused e → x ≡ e
   same_refusal p = cc
 
-  by_entries : {w : Tree} → forced_rule o.forced o.reading f ≡ rule w → {t : Tables} → head_of s ≡ head.Fields t → (a : Parse) → entries_from o s t t.count 0 w ≡ a
+  by_entries : {w : Tree} → forced_rule o.forced o.reading f ≡ rule w → {t : Tables} → head_of s ≡ Ok t → (a : Parse) → entries_from o s t t.count 0 w ≡ a
       → answered t (file_forms s t) a ≡ refused e → Fails o f s e
   by_entries p h (rule u) g q = absurd (never_accepted q)
   by_entries {w} p {t} h (norule x) g q =
@@ -450,9 +443,9 @@ module _ (o : Options) (f s : List ℕ) (e : Refusal) where
       let z : 0 + y.passed ≡ y.passed = omega arith in
       by_entry p h y.below y.before (ap (λ (k : ℕ). entry_step o s y.rule_so_far (read_at s t k)) (sym z) ∙ y.here)
 
-  by_heads : {w : Tree} → forced_rule o.forced o.reading f ≡ rule w → (h : Head) → head_of s ≡ h → catalog o s w h ≡ refused e → Fails o f s e
-  by_heads {w} p (head.Fields t) h q = by_entries p h (entries_from o s t t.count 0 w) refl q
-  by_heads p (head.Refused x) h q = by_head p h (sym (same_refusal q))
+  by_heads : {w : Tree} → forced_rule o.forced o.reading f ≡ rule w → (h : Result Tables Error) → head_of s ≡ h → catalog o s w h ≡ refused e → Fails o f s e
+  by_heads {w} p (Ok t) h q = by_entries p h (entries_from o s t t.count 0 w) refl q
+  by_heads p (Err x) h q = by_head p h (sym (same_refusal q))
 
   by_rules : (a : Parse) → forced_rule o.forced o.reading f ≡ a → load_with o s a ≡ refused e → Fails o f s e
   by_rules (rule w) p q = by_heads p (head_of s) refl q
@@ -481,7 +474,7 @@ module _ (o : Options) (f s : List ℕ) (e : Refusal) where
   unfolding load
   refused_so q = ap (fitted o.fit) q ∙ was_refused o.fit e
 
-  not_fitting : {t : Tables} {r : Tree} {n : Forms} → opened o f s ≡ accepted t r n → o.fit ≡ true → (Fits r n → ⊥) → load o f s ≡ refused (at File NotFit)
+  not_fitting : {t : Tables} {r : Tree} {n : Option ℕ} → opened o f s ≡ accepted t r n → o.fit ≡ true → (Fits r n → ⊥) → load o f s ≡ refused (at File NotFit)
   unfolding load
   not_fitting {t} {r} {n} q p x =
       rw (q, p)

@@ -18,19 +18,18 @@ use Rattle.reading_rule.specs.Plurals as plurals
 use Rattle.reading_rule.specs.Plurals.{Parse, rule, norule}
 use Rattle.reading_rule.specs.declared.Reading.{Reading}
 use Rattle.reading_rule.proofs.Nodes.{at_most_512_nodes}
-use Rattle.text.specs.declared.Stretch.TheVariants.{At, Absent}
-use Rattle.header_forms.specs.declared.Forms.{Forms}
+use Rattle.std.specs.Prelude.{Option, Some, None, Result, Ok, Err}
+use Rattle.refusal.specs.declared.Error.{Error}
+use Rattle.refusal.specs.declared.Refusal.{Refusal}
+use Rattle.text.specs.declared.Stretch.{Stretch}
 use Rattle.container_layout.specs.Mo.{segments}
 use Rattle.container_layout.specs.declared.Tables.{Tables}
 use Rattle.container_messages.specs.Messages.{read_at}
 use Rattle.container_messages.specs.declared.Read.{Read}
 use Rattle.container_messages.specs.declared.Read.TheVariants as read
 use Rattle.container_head.specs.Head.{head_of}
-use Rattle.container_head.specs.declared.Head.{Head}
-use Rattle.container_head.specs.declared.Head.TheVariants as head
-use Rattle.container_rule.specs.Rule.{forced_rule, rule_at, segment0, rule_in, file_forms}
+use Rattle.container_rule.specs.Rule.{forced_rule, rule_at, segment0, rule_by, rule_in, file_forms}
 use Rattle.container_rule.specs.declared.First.{First}
-use Rattle.container_rule.specs.declared.First.TheVariants as first
 use Rattle.container.specs.Catalog.{and_then, header, entry_step, entries_from, Answer, accepted, refused, answered, catalog, load_with, opened, fits, fitted, load, tree_in}
 use Rattle.container.specs.declared.Options.{Options}
 
@@ -48,17 +47,20 @@ few_forced : (forced : Bool) (reading : Reading) (f : List ℕ) → FewIn (force
 few_forced true reading f = at_most_512_nodes Forced reading f
 few_forced false reading f = few_default
 
-few_rule : (reading : Reading) (s : List ℕ) (r : Tree) → Few r → (p : First) → FewIn (rule_in reading s r p)
-few_rule reading s r h (first.Rule (At a l) n) = at_most_512_nodes in_rule reading (take l (drop a s))
-few_rule reading s r h (first.Rule Absent n) = h
-few_rule reading s r h (first.Refused e) = few_default
+few_rule : (reading : Reading) (s : List ℕ) (r : Tree) → Few r → (p : Result First Refusal) → FewIn (rule_in reading s r p)
+few_rule reading s r h (Ok f) = by_place f.rule
+  where
+    by_place : (p : Option Stretch) → FewIn (rule_by reading s r p)
+    by_place (Some p) = at_most_512_nodes in_rule reading (take p.len (drop p.start s))
+    by_place None = h
+few_rule reading s r h (Err e) = few_default
 
 module _ (o : Options) (s : List ℕ) where
-  few_entry : (r : Tree) → Few r → (q : Read) → FewIn (entry_step o s r q)
+  few_entry : (r : Tree) → Few r → (q : Result Read Refusal) → FewIn (entry_step o s r q)
   unfolding entry_step header
-  few_entry r h (read.Refused e) = few_default
-  few_entry r h read.Message = h
-  few_entry r h (read.Header a l) = few_rule o.reading (segment0 (segments s a l)) r h (rule_at o.forced o.utf8 (segment0 (segments s a l)))
+  few_entry r h (Err e) = few_default
+  few_entry r h (Ok read.Message) = h
+  few_entry r h (Ok (read.Header p)) = few_rule o.reading (segment0 (segments s p.start p.len)) r h (rule_at o.forced o.utf8 (segment0 (segments s p.start p.len)))
 
   few_then : (p : Parse) → FewIn p → (f : Tree → Parse) → ((r : Tree) → Few r → FewIn (f r)) → FewIn (and_then p f)
   few_then (rule r) h f g = g r h
@@ -70,13 +72,13 @@ module _ (o : Options) (s : List ℕ) where
   few_entries t (suc k) i r h =
       few_then (entry_step o s r (read_at s t i)) (few_entry r h (read_at s t i)) (entries_from o s t k (suc i)) (λ u g. few_entries t k (suc i) u g)
 
-  few_answered : (t : Tables) (n : Forms) (p : Parse) → FewIn p → Few (tree_in (answered t n p))
+  few_answered : (t : Tables) (n : Option ℕ) (p : Parse) → FewIn p → Few (tree_in (answered t n p))
   few_answered t n (rule r) h = h
   few_answered t n (norule e) h = few_default
 
-  few_catalog : (r : Tree) → Few r → (h : Head) → Few (tree_in (catalog o s r h))
-  few_catalog r g (head.Fields t) = few_answered t (file_forms s t) (entries_from o s t t.count 0 r) (few_entries t t.count 0 r g)
-  few_catalog r g (head.Refused e) = few_default
+  few_catalog : (r : Tree) → Few r → (h : Result Tables Error) → Few (tree_in (catalog o s r h))
+  few_catalog r g (Ok t) = few_answered t (file_forms s t) (entries_from o s t t.count 0 r) (few_entries t t.count 0 r g)
+  few_catalog r g (Err e) = few_default
 
   few_with : (p : Parse) → FewIn p → Few (tree_in (load_with o s p))
   few_with (rule r) h = few_catalog r h (head_of s)

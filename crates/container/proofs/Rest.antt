@@ -8,9 +8,8 @@ use native.Mathlib.Numerals.{add-one}
 use Rattle.container_messages.specs.Messages.{read_at}
 use Rattle.refusal.specs.declared.Refusal.{Refusal}
 use Rattle.container_messages.specs.declared.Read.{Read}
+use Rattle.std.specs.Prelude.{Result, Ok, Err}
 use Rattle.container.specs.Private.{read_outcome, go_on, rest_from}
-use Rattle.refusal.specs.declared.Outcome.{Outcome}
-use Rattle.refusal.specs.declared.Outcome.TheVariants as outcome
 
 -- the entries from i on decide
 module _ (s : List ℕ) (t : Tables) where
@@ -23,16 +22,16 @@ module _ (s : List ℕ) (t : Tables) where
   turn i h = let z : t.count - i ≡ suc (t.count - (i + 1)) = omega arith in rw (z, add-one i)
 
   module _ (i : ℕ) (m : Left i) where
-    pub left_none : t.count ≤ i → outcome.Loaded ≡ rest_from s t (t.count - 1) 1
+    pub left_none : t.count ≤ i → Ok tt ≡ rest_from s t (t.count - 1) 1
     unfolding rest_from
     left_none h = let z : t.count - i ≡ 0 = omega arith in sym (m ∙ rw z)
 
-    module _ (h : i < t.count) {q : Read} {p : Outcome} (e : q ≡ read_at s t i) (f : p ≡ read_outcome q) where
-      so : rest_from s t (t.count - 1) 1 ≡ go_on p (rest_from s t (t.count - (i + 1)) (i + 1))
-      so = m ∙ turn i h ∙ rw (f, e)
+    module _ (h : i < t.count) {q : Result Read Refusal} (e : q ≡ read_at s t i) where
+      so : rest_from s t (t.count - 1) 1 ≡ go_on (read_outcome q) (rest_from s t (t.count - (i + 1)) (i + 1))
+      so = m ∙ turn i h ∙ rw e
 
-      pub left_stop : {x : Refusal} → p ≡ outcome.Refused x → p ≡ rest_from s t (t.count - 1) 1
-      left_stop g = g ∙ sym (so ∙ rw g)
+      pub left_stop : {x : Refusal} → q ≡ Err x → Err x ≡ rest_from s t (t.count - 1) 1
+      left_stop g = sym (so ∙ rw g)
 
-      pub left_more : p ≡ outcome.Loaded → Left (i + 1)
+      pub left_more : {u : Read} → q ≡ Ok u → Left (i + 1)
       left_more g = so ∙ rw g

@@ -6,10 +6,10 @@ use contract.Lifetimes.{Lfts}
 use denote.Triple.Clauses.{AtExit}
 use borrow.Fn.Kinds.{ended_of}
 use Rattle.promise.proofs.One.{One, OneLeft}
-use Rattle.refusal.specs.declared.Outcome.{Outcome}
+use Rattle.std.specs.Prelude.{Option, Result}
+use Rattle.refusal.specs.declared.Refusal.{Refusal}
 use Rattle.rules.specs.Tree.{Tree}
 use Rattle.rules.specs.Pool.{Pool, pool}
-use Rattle.header_forms.specs.declared.Forms.{Forms}
 use Rattle.container_layout.specs.declared.Tables.{Tables}
 use Rattle.container.specs.Catalog.{Answer}
 use Rattle.container.specs.Promise.{Holds, Loads}
@@ -25,13 +25,13 @@ use Rattle.container.proofs.load_into.Kinds as load-into-kinds
 use Rattle.container.proofs.load.Reads as load
 use Rattle.container.proofs.load.Kinds as load-kinds
 
-abbrev made : Tables → Pool → ℕ → ℕ → Forms → Record
+abbrev made : Tables → Pool → ℕ → ℕ → Option ℕ → Record
 made t P k r x = record { tables = t; codes = P.codes; places = P.places; values = P.values; nodes = k; root = r; forms = x }
 
-same : {t u : Tables} {P Q : Pool} {j k m n : ℕ} {x y : Forms} → t ≡ u → P ≡ Q → j ≡ k → m ≡ n → x ≡ y → made t P j m x ≡ made u Q k n y
+same : {t u : Tables} {P Q : Pool} {j k m n : ℕ} {x y : Option ℕ} → t ≡ u → P ≡ Q → j ≡ k → m ≡ n → x ≡ y → made t P j m x ≡ made u Q k n y
 same e f g h i = rw (e, f, g, h, i)
 
-pub holds_one : {t : Tables} {r : Tree} {n : Forms} (u v : Record) → Holds t r n u → Holds t r n v → u ≡ v
+pub holds_one : {t : Tables} {r : Tree} {n : Option ℕ} (u v : Record) → Holds t r n u → Holds t r n v → u ≡ v
 holds_one u v p q =
     same (p.tables_are ∙ sym q.tables_are) (p.rule_is ∙ sym q.rule_is) (p.nodes_are ∙ sym q.nodes_are) (p.root_is ∙ sym q.root_is)
     (p.forms_are ∙ sym q.forms_are)
@@ -39,10 +39,10 @@ holds_one u v p q =
 pub empty_one : One 0 empty-kinds.ps empty-kinds.r empty.Post
 empty_one κs a u v x y p q = holds_one u v p q
 
-abbrev told : Outcome → Tables → ℕ → Forms → Loading
+abbrev told : Result Unit Refusal → Tables → ℕ → Option ℕ → Loading
 told o t k n = record { outcome = o; tables = t; nodes = k; forms = n }
 
-same_loading : {o p : Outcome} {t u : Tables} {j k : ℕ} {m n : Forms} → o ≡ p → t ≡ u → j ≡ k → m ≡ n → told o t j m ≡ told p u k n
+same_loading : {o p : Result Unit Refusal} {t u : Tables} {j k : ℕ} {m n : Option ℕ} → o ≡ p → t ≡ u → j ≡ k → m ≡ n → told o t j m ≡ told p u k n
 same_loading e f g h = rw (e, f, g, h)
 
 abbrev empty_left : (κs : Lfts 3) → AtExit (ended_of 3 empty-into-kinds.ps empty-into-kinds.r) κs → Pool
@@ -66,7 +66,7 @@ load_left κs x = pool x.1.1.1.0.now x.1.1.1.1.0.now x.1.1.1.1.1.0.now
 pub load_into_one : OneLeft 4 load-into-kinds.ps load-into-kinds.r load-into.Post load_left
 load_into_one κs a u v x y p q = loads_one _ u v p q
 
-abbrev beside : Outcome → Record → loaded.Loaded
+abbrev beside : Result Unit Refusal → Record → loaded.Loaded
 beside o r = record { outcome = o; «record» = r }
 
 pub load_one : One 1 load-kinds.ps load-kinds.r load.Post

@@ -1,7 +1,7 @@
 -- Loading without places: the numbers of SPEC 3 alone, in the order of its stages, as they were before a refusal said where (SPEC 2.1) and
 -- a count was kept (SPEC 3.8). proofs/Before.antt shows that `load` without a demand for a fit, its places and counts forgotten, is this
 -- (`forgotten`).
-use Rattle.std.specs.Prelude.{ℕ, zero, suc, true, false, ◌||◌, List, length, take, drop, ltb}
+use Rattle.std.specs.Prelude.{ℕ, zero, suc, true, false, ◌||◌, List, length, take, drop, ltb, Option, Some, None, Result, Ok, Err}
 use Rattle.text.specs.Bytes.{all}
 use Rattle.text_trim.specs.Trim.{trim, white_space}
 use Rattle.refusal.specs.declared.Error.{Error}
@@ -11,16 +11,12 @@ use Rattle.rules.specs.Tree.{Tree, default_tree}
 use Rattle.reading_rule.specs.Plurals.{read_as, is_ascii}
 use Rattle.reading_rule.specs.declared.Reading.{Reading}
 use Rattle.text.specs.declared.Stretch.{Stretch}
-use Rattle.text.specs.declared.Stretch.TheVariants as stretch
 use Rattle.header.specs.Header.{metadata}
 use Rattle.header.specs.declared.Metadata.{Metadata}
-use Rattle.header.specs.declared.Metadata.TheVariants as metadata
 use Rattle.container_layout.specs.Mo.{segments}
 use Rattle.container_layout.specs.declared.Tables.{Tables}
 use Rattle.container_messages.specs.Before as read
 use Rattle.container_head.specs.Head.{head_of}
-use Rattle.container_head.specs.declared.Head.{Head}
-use Rattle.container_head.specs.declared.Head.TheVariants as head
 use Rattle.container_rule.specs.Rule.{label_ok, segment0}
 use Rattle.container.specs.declared.Options.{Options}
 
@@ -49,14 +45,14 @@ abbrev pub parsed : Reading → List ℕ → Stage
 parsed reading s = tested reading (trim white_space s)
 
 -- the header h; r is the rule so far
-abbrev pub ruled : Options → List ℕ → Tree → Stretch → Stage
-ruled o h r (stretch.At start len) = parsed o.reading (take len (drop start h))
-ruled o h r stretch.Absent = hands r
+abbrev pub ruled : Options → List ℕ → Tree → Option Stretch → Stage
+ruled o h r (Some p) = parsed o.reading (take p.len (drop p.start h))
+ruled o h r None = hands r
 
-abbrev pub headed : Options → List ℕ → Tree → Metadata → Stage
-headed o h r metadata.Malformed = stops MalformedMetadata
-headed o h r (metadata.Fields label p n) =
-    elim (o.utf8 || label_ok h label) [ true ↦ ruled o h r (elim o.forced [ true ↦ stretch.Absent | false ↦ p ]) | false ↦ stops UnknownEncoding ]
+abbrev pub headed : Options → List ℕ → Tree → Option Metadata → Stage
+headed o h r None = stops MalformedMetadata
+headed o h r (Some m) =
+    elim (o.utf8 || label_ok h m.charset) [ true ↦ ruled o h r (elim o.forced [ true ↦ None | false ↦ m.rule ]) | false ↦ stops UnknownEncoding ]
 
 -- an entry
 abbrev pub entry_of : Options → List ℕ → Tree → read.Read → Stage
@@ -78,9 +74,9 @@ abbrev pub answered : Tables → Stage → Answer
 answered t (hands r) = accepted t r
 answered t (stops e) = refused e
 
-abbrev pub catalog : Options → List ℕ → Tree → Head → Answer
-catalog o s r (head.Fields t) = answered t (entries_from o s t t.count 0 r)
-catalog o s r (head.Refused e) = refused e
+abbrev pub catalog : Options → List ℕ → Tree → Result Tables Error → Answer
+catalog o s r (Ok t) = answered t (entries_from o s t t.count 0 r)
+catalog o s r (Err e) = refused e
 
 abbrev pub load_with : Options → List ℕ → Stage → Answer
 load_with o s (hands r) = catalog o s r (head_of s)

@@ -1,29 +1,26 @@
 -- What the functions of this crate promise of an answer: in arrays that are lent, and as a record.
-use Rattle.std.specs.Prelude.{◌-◌, ◌≡◌}
-use Rattle.refusal.specs.declared.Outcome.{Outcome}
-use Rattle.refusal.specs.declared.Outcome.TheVariants.{Loaded, Refused}
+use Rattle.std.specs.Prelude.{ℕ, ◌-◌, ◌≡◌, Option, None, Result, Ok, Err}
+use Rattle.refusal.specs.declared.Refusal.{Refusal}
 use Rattle.rules.specs.Tree.{Tree, default_tree}
 use Rattle.rules.specs.Pool.{Pool, pool}
 use Rattle.rules.specs.Pack.{packed, packed_size}
-use Rattle.header_forms.specs.declared.Forms.{Forms}
-use Rattle.header_forms.specs.declared.Forms.TheVariants.{Absent}
 use Rattle.container_layout.specs.declared.Tables.{Tables}
 use Rattle.container.specs.Catalog.{Answer, accepted, refused, no_tables, tables_in, tree_in, forms_in}
 use Rattle.container.specs.declared.Record.{Record}
 use Rattle.container.specs.declared.Loading.{Loading}
 use Rattle.container.specs.declared.Loaded as loaded
 
-abbrev pub outcome_of : Answer → Outcome
-outcome_of (accepted t r n) = Loaded
-outcome_of (refused e) = Refused e
+abbrev pub outcome_of : Answer → Result Unit Refusal
+outcome_of (accepted t r n) = Ok tt
+outcome_of (refused e) = Err e
 
 -- the empty catalog, with that outcome; Q are the arrays at exit
-pub record Empties (b : Outcome) (Q : Pool) (r : Loading) : Type 0 where
+pub record Empties (b : Result Unit Refusal) (Q : Pool) (r : Loading) : Type 0 where
   pub outcome_is : r.outcome ≡ b
   pub tables_are : r.tables ≡ no_tables
   pub nodes_are : r.nodes ≡ packed_size default_tree
   pub rule_is : Q ≡ packed default_tree
-  pub forms_are : r.forms ≡ Absent
+  pub forms_are : r.forms ≡ None
 
 -- what a load answers
 pub record Loads (a : Answer) (Q : Pool) (r : Loading) : Type 0 where
@@ -34,7 +31,7 @@ pub record Loads (a : Answer) (Q : Pool) (r : Loading) : Type 0 where
   pub forms_are : r.forms ≡ forms_in a
 
 -- a record of those tables, that rule, whose root is its last node, and that count
-pub record Holds (t : Tables) (tree : Tree) (n : Forms) (r : Record) : Type 0 where
+pub record Holds (t : Tables) (tree : Tree) (n : Option ℕ) (r : Record) : Type 0 where
   pub tables_are : r.tables ≡ t
   pub rule_is : pool r.codes r.places r.values ≡ packed tree
   pub nodes_are : r.nodes ≡ packed_size tree
@@ -42,7 +39,7 @@ pub record Holds (t : Tables) (tree : Tree) (n : Forms) (r : Record) : Type 0 wh
   pub forms_are : r.forms ≡ n
 
 abbrev pub Empty : Record → Type 0
-Empty r = Holds no_tables default_tree Absent r
+Empty r = Holds no_tables default_tree None r
 
 pub record Opens (a : Answer) (r : loaded.Loaded) : Type 0 where
   pub outcome_is : r.outcome ≡ outcome_of a

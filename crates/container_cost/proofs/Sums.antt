@@ -6,14 +6,13 @@ use mathlib.Core.List.{List}
 use native.Mathlib.Omega.{arith}
 use lib.Dec.{ltb}
 use lib.ListN.{length}
-use borrow.Author.Tests.{le-leb, lt-leb, lt-ltb, le-ltb, ltb-false}
+use borrow.Author.Tests.{le-leb, lt-leb, lt-ltb, le-ltb, ltb-true, ltb-false}
 use Rattle.text.proofs.Tests.{taken, left, by_test}
 use Rattle.container_layout.specs.Mo.{word}
 use Rattle.refusal.specs.declared.Error.{Error}
 use Rattle.container_layout.specs.declared.Tables.{Tables}
 use Rattle.container_head.specs.Head.{head_of}
-use Rattle.container_head.specs.declared.Head.{Head}
-use Rattle.container_head.specs.declared.Head.TheVariants as head
+use Rattle.std.specs.Prelude.{Result, Ok, Err, min}
 use Rattle.container_cost.specs.Cost.{stated, lengths, capped, cost_of, cost}
 use Rattle.container_cost.specs.Private.{Cells}
 
@@ -24,6 +23,12 @@ capped_below x h = sym (taken _ _ (lt-ltb x (2 ^ 64) h))
 pub capped_above : (x : ℕ) → 2 ^ 64 ≤ x → 2 ^ 64 - 1 ≡ capped x
 unfolding capped
 capped_above x h = sym (left _ _ (le-ltb x (2 ^ 64) h))
+
+pub capped_min : (x : ℕ) → min x (2 ^ 64 - 1) ≡ capped x
+capped_min x =
+    by_test (min x (2 ^ 64 - 1) ≡ capped x) (ltb x (2 ^ 64))
+    (λ t. let h : x < 2 ^ 64 = ltb-true x (2 ^ 64) t in let z : min x (2 ^ 64 - 1) ≡ x = omega (arith, h) in z ∙ capped_below x h)
+    (λ t. let h : 2 ^ 64 ≤ x = ltb-false x (2 ^ 64) t in let z : min x (2 ^ 64 - 1) ≡ 2 ^ 64 - 1 = omega (arith, h) in z ∙ capped_above x h)
 
 -- a sum is capped once or at each step, with the same end
 pub capped_twice : (a b : ℕ) → capped (capped a + b) ≡ capped (a + b)
@@ -87,12 +92,12 @@ capped_both a b {x} {y} e f g =
     let h : b + a ≡ a + b = omega arith in
     g ∙ ap capped c ∙ capped_twice a (capped b) ∙ ap capped d ∙ capped_twice b a ∙ ap capped h
 
-module _ (s : List ℕ) {h : Head} (e : h ≡ head_of s) where
-  pub no_cost : {x : Error} → h ≡ head.Refused x → 0 ≡ cost s
+module _ (s : List ℕ) {h : Result Tables Error} (e : h ≡ head_of s) where
+  pub no_cost : {x : Error} → h ≡ Err x → 0 ≡ cost s
   unfolding cost
   no_cost q = sym (ap (cost_of s) (sym e ∙ q))
 
-  pub the_cost : {t : Tables} {x y r : ℕ} → h ≡ head.Fields t → x ≡ capped (lengths t.big s t.originals t.count)
+  pub the_cost : {t : Tables} {x y r : ℕ} → h ≡ Ok t → x ≡ capped (lengths t.big s t.originals t.count)
       → y ≡ capped (lengths t.big s t.translations t.count) → r ≡ capped (x + y) → r ≡ cost s
   unfolding cost
   the_cost {t} q f g i = capped_both (lengths t.big s t.originals t.count) (lengths t.big s t.translations t.count) f g i ∙ sym (ap (cost_of s) (sym e ∙ q))

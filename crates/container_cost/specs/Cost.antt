@@ -1,10 +1,10 @@
 -- What a load costs: the sum of the lengths that the tables of a file state. A load looks at these many bytes of strings, at most, since it
 -- tests each entry's by themselves, and entries may overlap.
-use Rattle.std.specs.Prelude.{ℕ, zero, suc, ◌+◌, ◌*◌, ◌-◌, ◌^◌, Bool, true, false, List, ltb}
+use Rattle.std.specs.Prelude.{ℕ, zero, suc, ◌+◌, ◌*◌, ◌-◌, ◌^◌, Bool, true, false, List, ltb, Result, Ok, Err}
 use Rattle.container_layout.specs.Mo.{word, has_cell}
 use Rattle.container_head.specs.Head.{head_of}
-use Rattle.container_head.specs.declared.Head.{Head}
-use Rattle.container_head.specs.declared.Head.TheVariants as head
+use Rattle.container_layout.specs.declared.Tables.{Tables}
+use Rattle.refusal.specs.declared.Error.{Error}
 
 -- the length that the cell of index i states, where it lies in the file
 unfoldable pub stated : Bool → List ℕ → ℕ → ℕ → ℕ
@@ -21,10 +21,10 @@ lengths big s table (suc k) = lengths big s table k + stated big s table k
 unfoldable pub capped : ℕ → ℕ
 capped x = elim (ltb x (2 ^ 64)) [ true ↦ x | false ↦ 2 ^ 64 - 1 ]
 
-unfoldable pub cost_of : List ℕ → Head → ℕ
+unfoldable pub cost_of : List ℕ → Result Tables Error → ℕ
 unfolding lengths capped
-cost_of s (head.Fields t) = capped (lengths t.big s t.originals t.count + lengths t.big s t.translations t.count)
-cost_of s (head.Refused e) = 0
+cost_of s (Ok t) = capped (lengths t.big s t.originals t.count + lengths t.big s t.translations t.count)
+cost_of s (Err e) = 0
 
 unfoldable pub cost : List ℕ → ℕ
 unfolding cost_of head_of

@@ -10,13 +10,12 @@ use Rattle.text.proofs.Tests.{taken, left, and_none}
 use Rattle.container_layout.specs.Mo.{word}
 use Rattle.container_head.specs.Head.{magic, order_of, tables_of, head_of}
 use Rattle.refusal.specs.declared.Error.TheVariants.{Eof, BadMagic}
-use Rattle.container_head.specs.declared.Order.{Order}
-use Rattle.container_head.specs.declared.Order.TheVariants as order
-use Rattle.container_head.specs.declared.Head.{Head}
-use Rattle.container_head.specs.declared.Head.TheVariants.{Fields, Refused}
+use Rattle.std.specs.Prelude.{Option, Some, None, Result, Ok, Err}
+use Rattle.refusal.specs.declared.Error.{Error}
+use Rattle.container_layout.specs.declared.Tables.{Tables}
 
 module _ (s : List ℕ) {x : ℕ} (e : x ≡ word false s 0) where
-  pub is_little : x ≡ magic → order.Big false ≡ order_of s
+  pub is_little : x ≡ magic → Some false ≡ order_of s
   unfolding order_of
   is_little f = sym (taken _ _ (eq-eqb (word false s 0) magic (sym e ∙ f)))
 
@@ -24,36 +23,36 @@ module _ (s : List ℕ) {x : ℕ} (e : x ≡ word false s 0) where
     other : eqb (word false s 0) magic ≡ false
     other = rw (← e) (ne_eqb x magic n)
 
-    pub is_big : y ≡ magic → order.Big true ≡ order_of s
+    pub is_big : y ≡ magic → Some true ≡ order_of s
     unfolding order_of
     is_big f = sym (left _ _ other ∙ taken _ _ (eq-eqb (word true s 0) magic (sym g ∙ f)))
 
-    pub is_unknown : (y ≡ magic → ⊥) → order.Unknown ≡ order_of s
+    pub is_unknown : (y ≡ magic → ⊥) → None ≡ order_of s
     unfolding order_of
     is_unknown f = let z : eqb (word true s 0) magic ≡ false = rw (← g) (ne_eqb y magic f) in sym (left _ _ other ∙ left _ _ z)
 
 module _ (s : List ℕ) where
   module _ (b : Bool) {x : ℕ} (e : x ≡ word b s 12) where
-    pub originals_out : length s < x → Refused Eof ≡ tables_of s (order.Big b)
+    pub originals_out : length s < x → Err Eof ≡ tables_of s (Some b)
     originals_out h = sym (left {b = leb (word b s 12) (length s) && leb (word b s 16) (length s)} _ _ (rw (← e, lt-leb x (length s) h)))
 
-    pub translations_out : {y : ℕ} → y ≡ word b s 16 → length s < y → Refused Eof ≡ tables_of s (order.Big b)
+    pub translations_out : {y : ℕ} → y ≡ word b s 16 → length s < y → Err Eof ≡ tables_of s (Some b)
     translations_out {y} f h = sym (left {b = leb (word b s 12) (length s) && leb (word b s 16) (length s)} _ _ (rw (← f, lt-leb y (length s) h) (and_none (leb (word b s 12) (length s)))))
 
     pub tables_in_lem : {k y : ℕ} → k ≡ word b s 8 → y ≡ word b s 16 → x ≤ length s → y ≤ length s
-        → Fields (record { length = length s; big = b; count = k; originals = x; translations = y }) ≡ tables_of s (order.Big b)
+        → Ok (record { length = length s; big = b; count = k; originals = x; translations = y }) ≡ tables_of s (Some b)
     tables_in_lem {k} {y} g f h i =
         let z : (leb (word b s 12) (length s) && leb (word b s 16) (length s)) ≡ true = rw (← e, ← f, le-leb x (length s) h, le-leb y (length s) i) in
         rw (g, e, f) (sym (taken _ _ z))
 
-  pub too_short : length s < 28 → Refused Eof ≡ head_of s
+  pub too_short : length s < 28 → Err Eof ≡ head_of s
   unfolding head_of
   too_short h = sym (taken _ _ (lt-ltb (length s) 28 h))
 
-  pub no_magic : {r : Order} → 28 ≤ length s → r ≡ order_of s → r ≡ order.Unknown → Refused BadMagic ≡ head_of s
+  pub no_magic : {r : Option Bool} → 28 ≤ length s → r ≡ order_of s → r ≡ None → Err BadMagic ≡ head_of s
   unfolding head_of
   no_magic h e f = sym (left _ _ (le-ltb (length s) 28 h) ∙ ap (tables_of s) (sym e ∙ f))
 
-  pub head_told : {r : Order} {b : Bool} {q : Head} → 28 ≤ length s → r ≡ order_of s → r ≡ order.Big b → q ≡ tables_of s (order.Big b) → q ≡ head_of s
+  pub head_told : {r : Option Bool} {b : Bool} {q : Result Tables Error} → 28 ≤ length s → r ≡ order_of s → r ≡ Some b → q ≡ tables_of s (Some b) → q ≡ head_of s
   unfolding head_of
   head_told h e f g = g ∙ sym (left _ _ (le-ltb (length s) 28 h) ∙ ap (tables_of s) (sym e ∙ f))

@@ -8,7 +8,8 @@ use lib.ListN.{length, get_or}
 use borrow.Author.Tests.{le-leb, lt-leb, leb-true}
 use Rattle.text.proofs.Tests.{taken, left, by_test}
 use Rattle.container_layout.specs.Mo.{from_bytes, word, within, string, has_cell, has_string}
-use Rattle.text.specs.declared.Stretch.TheVariants.{At, Absent}
+use Rattle.std.specs.Prelude.{Some, None}
+use Rattle.text.specs.declared.Stretch.{Stretch}
 
 module _ (s : List ℕ) (at : ℕ) {r : ℕ} {big : Bool} where
   pub read_big : big ≡ true → r ≡ from_bytes (get_or s (at + 3) 0) (get_or s (at + 2) 0) (get_or s (at + 1) 0) (get_or s at 0) → r ≡ word big s at
@@ -19,16 +20,8 @@ module _ (s : List ℕ) (at : ℕ) {r : ℕ} {big : Bool} where
   unfolding word
   read_little b e = rw b e
 
--- a cell's string, by the words that were read
-module _ (s : List ℕ) {start len v w : ℕ} (e : start ≡ v) (f : len ≡ w) where
-  pub string_out : length s < start + len + 1 → Absent ≡ within s v w
-  string_out h = rw (← e, ← f) (sym (left _ _ (lt-leb (start + len + 1) (length s) h)))
-
-  pub string_in : start + len + 1 ≤ length s → At start len ≡ within s v w
-  string_in h = rw (← e, ← f) (sym (taken _ _ (le-leb (start + len + 1) (length s) h)))
-
 module _ (big : Bool) (s : List ℕ) (table i : ℕ) where
-  pub no_cell : length s < table + 8 * i + 8 → Absent ≡ string big s table i
+  pub no_cell : length s < table + 8 * i + 8 → None ≡ string big s table i
   unfolding string
   no_cell h = sym (left _ _ (lt-leb (table + 8 * i + 8) (length s) h))
 
@@ -37,19 +30,21 @@ module _ (big : Bool) (s : List ℕ) (table i : ℕ) where
   has_cell_lem e h = rw e (sym (taken _ _ (le-leb (table + 8 * i + 8) (length s) h)))
 
 -- nothing lies outside
-pub never_out : {a l : ℕ} → Absent ≡ At a l → ⊥
+pub never_out : {p : Stretch} → None ≡ Some p → ⊥
 never_out e = let z : ◌≡◌ {A = ℕ} 0 1 = cc in omega arith
 
-within_told : (s : List ℕ) (v w a l : ℕ) → within s v w ≡ At a l → a + l + 1 ≤ length s
-within_told s v w a l e =
-    by_test (a + l + 1 ≤ length s) (has_string s v w)
-    (λ t. let q : At v w ≡ At a l = sym (taken _ _ t) ∙ e in let x : v ≡ a = cc in let y : w ≡ l = cc in omega (arith, leb-true (v + w + 1) (length s) t))
+within_told : (s : List ℕ) (v w : ℕ) (p : Stretch) → within s v w ≡ Some p → p.start + p.len + 1 ≤ length s
+within_told s v w p e =
+    by_test (p.start + p.len + 1 ≤ length s) (has_string s v w)
+    (λ t.
+    let q : record { start = v; len = w } ≡ p = cc (sym (taken _ _ t) ∙ e) in
+    rw (← q) (leb-true (v + w + 1) (length s) t))
     (λ t. absurd (never_out (sym (left _ _ t) ∙ e)))
 
 -- a string lies in the file, with the byte after it
-pub string_told : (big : Bool) (s : List ℕ) (table i : ℕ) {a l : ℕ} → string big s table i ≡ At a l → a + l + 1 ≤ length s
+pub string_told : (big : Bool) (s : List ℕ) (table i : ℕ) {p : Stretch} → string big s table i ≡ Some p → p.start + p.len + 1 ≤ length s
 unfolding string
-string_told big s table i {a} {l} e =
-    by_test (a + l + 1 ≤ length s) (has_cell s table i)
-    (λ t. within_told s _ _ a l (sym (taken _ _ t) ∙ e))
+string_told big s table i {p} e =
+    by_test (p.start + p.len + 1 ≤ length s) (has_cell s table i)
+    (λ t. within_told s _ _ p (sym (taken _ _ t) ∙ e))
     (λ t. absurd (never_out (sym (left _ _ t) ∙ e)))

@@ -11,8 +11,7 @@ use Rattle.container_layout.specs.Mo.{string, original, id_end, keyed, translate
 use Rattle.container_layout.specs.Promise.{Splits}
 use Rattle.container_layout.specs.declared.Tables.{Tables}
 use Rattle.text.specs.declared.Stretch.{Stretch}
-use Rattle.text.specs.declared.Stretch.TheVariants as stretch
-use Rattle.container_layout.specs.declared.Entry.TheVariants.{At, NoEntry}
+use Rattle.std.specs.Prelude.{Option, Some, None}
 use Rattle.container_layout.specs.declared.Parts.{Parts}
 use Rattle.container_layout.proofs.Cells.{string_told}
 
@@ -24,31 +23,31 @@ pub original_length : (s : List ℕ) (start len : ℕ) → start + len + 1 ≤ l
 original_length s start len h = length-take-le (len + 1) (drop start s) (omega (arith, length-drop start s))
 
 module _ (s : List ℕ) (t : Tables) (i : ℕ) where
-  pub no_original : {x : Stretch} → x ≡ string t.big s t.originals i → x ≡ stretch.Absent → NoEntry ≡ entry s t i
+  pub no_original : {x : Option Stretch} → x ≡ string t.big s t.originals i → x ≡ None → None ≡ entry s t i
   unfolding entry
   no_original e f = rw (← e, f)
 
-  module _ {a l : ℕ} {x : Stretch} {p : Parts} (e : x ≡ string t.big s t.originals i) (f : x ≡ stretch.At a l)
-      (g : Splits (take (a + l + 1 - a) (drop a s)) p) where
-    size : length (original s a l) ≡ l + 1
-    size = original_length s a l (string_told t.big s t.originals i (sym e ∙ f))
+  module _ {o : Stretch} {x : Option Stretch} {p : Parts} (e : x ≡ string t.big s t.originals i) (f : x ≡ Some o)
+      (g : Splits (take (o.start + o.len + 1 - o.start) (drop o.start s)) p) where
+    size : length (original s o.start o.len) ≡ o.len + 1
+    size = original_length s o.start o.len (string_told t.big s t.originals i (sym e ∙ f))
 
-    key_end : p.end ≡ id_end (original s a l)
-    key_end = g.end ∙ ap id_end (original_part s a l)
+    key_end : p.end ≡ id_end (original s o.start o.len)
+    key_end = g.end ∙ ap id_end (original_part s o.start o.len)
 
-    as_keyed : entry s t i ≡ keyed s (stretch.At a l) (string t.big s t.translations i)
+    as_keyed : entry s t i ≡ keyed s (Some o) (string t.big s t.translations i)
     unfolding entry
-    as_keyed = ap (λ (y : Stretch). keyed s y (string t.big s t.translations i)) (sym e ∙ f)
+    as_keyed = ap (λ (y : Option Stretch). keyed s y (string t.big s t.translations i)) (sym e ∙ f)
 
-    pub no_id : l < p.end → NoEntry ≡ entry s t i
-    no_id h = sym (as_keyed ∙ left _ _ (le-ltb (id_end (original s a l)) (length (original s a l)) (omega (arith, size, key_end))))
+    pub no_id : o.len < p.end → None ≡ entry s t i
+    no_id h = sym (as_keyed ∙ left _ _ (le-ltb (id_end (original s o.start o.len)) (length (original s o.start o.len)) (omega (arith, size, key_end))))
 
-    at_key : p.end ≤ l → entry s t i ≡ translated (string t.big s t.translations i) a (id_end (original s a l))
-    at_key h = as_keyed ∙ taken _ _ (lt-ltb (id_end (original s a l)) (length (original s a l)) (omega (arith, size, key_end)))
+    at_key : p.end ≤ o.len → entry s t i ≡ translated (string t.big s t.translations i) o.start (id_end (original s o.start o.len))
+    at_key h = as_keyed ∙ taken _ _ (lt-ltb (id_end (original s o.start o.len)) (length (original s o.start o.len)) (omega (arith, size, key_end)))
 
-    pub no_translation : {y : Stretch} → p.end ≤ l → y ≡ string t.big s t.translations i → y ≡ stretch.Absent → NoEntry ≡ entry s t i
-    no_translation h u v = sym (at_key h ∙ ap (λ (z : Stretch). translated z a (id_end (original s a l))) (sym u ∙ v))
+    pub no_translation : {y : Option Stretch} → p.end ≤ o.len → y ≡ string t.big s t.translations i → y ≡ None → None ≡ entry s t i
+    no_translation h u v = sym (at_key h ∙ ap (λ (z : Option Stretch). translated z o.start (id_end (original s o.start o.len))) (sym u ∙ v))
 
-    pub is_entry : {b m : ℕ} {y : Stretch} → p.end ≤ l → y ≡ string t.big s t.translations i → y ≡ stretch.At b m → At a p.end b m ≡ entry s t i
-    is_entry {b} {m} h u v =
-        ap (λ (k : ℕ). At a k b m) key_end ∙ sym (at_key h ∙ ap (λ (z : Stretch). translated z a (id_end (original s a l))) (sym u ∙ v))
+    pub is_entry : {q : Stretch} {y : Option Stretch} → p.end ≤ o.len → y ≡ string t.big s t.translations i → y ≡ Some q → Some (record { key = o.start; key_len = p.end; start = q.start; len = q.len }) ≡ entry s t i
+    is_entry {q} h u v =
+        ap (λ (k : ℕ). translated (Some q) o.start k) key_end ∙ sym (at_key h ∙ ap (λ (z : Option Stretch). translated z o.start (id_end (original s o.start o.len))) (sym u ∙ v))

@@ -13,13 +13,13 @@ use Rattle.text.proofs.Tests.{taken, by_test}
 use Rattle.text.proofs.Cuts.{rest_last, rest_more, rest_bound}
 use Rattle.text.proofs.Parts.{part_of_part}
 use Rattle.container_layout.specs.Mo.{piece_at, segment, segments}
-use Rattle.text.specs.declared.Stretch.TheVariants.{At}
+use Rattle.std.specs.Prelude.{Some}
 
 -- the k-th of the pieces ps of s, the first of which starts at from
 pub record Holds (s : List ℕ) (from k : ℕ) (ps : List (List ℕ)) : Type 0 where
   pub start : ℕ
   pub len : ℕ
-  pub is : piece_at from k ps ≡ At start len
+  pub is : piece_at from k ps ≡ Some (record { start = start; len = len })
   pub text : take len (drop start s) ≡ get_or ps k []
   pub inside : start + len ≤ length s
 

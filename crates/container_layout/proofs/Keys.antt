@@ -14,8 +14,8 @@ use Rattle.text.proofs.Walk.{rest_at}
 use Rattle.container_layout.specs.Mo.{string, original, has_context, context_end, id_start, id_end, context, id, key, ended, keyed, translated, entry}
 use Rattle.container_layout.specs.declared.Tables.{Tables}
 use Rattle.text.specs.declared.Stretch.{Stretch}
-use Rattle.text.specs.declared.Stretch.TheVariants as stretch
-use Rattle.container_layout.specs.declared.Entry.TheVariants.{At, NoEntry}
+use Rattle.container_layout.specs.declared.Entry.{Entry}
+use Rattle.std.specs.Prelude.{Option, Some, None}
 use Rattle.container_layout.proofs.Marks.{stops}
 use Rattle.container_layout.proofs.Cells.{string_told}
 use Rattle.container_layout.proofs.Entries.{original_length}
@@ -66,24 +66,23 @@ key_part : (s : List ℕ) (a l : ℕ) → a + l + 1 ≤ length s → ended (orig
 unfolding key
 key_part s a l h e = sym (take-take (id_end (original s a l)) (l + 1) (drop a s) (omega (arith, ltb-true (id_end (original s a l)) (length (original s a l)) e, original_length s a l h)))
 
-never_entry : {a k b m : ℕ} → NoEntry ≡ At a k b m → ⊥
+never_entry : {r : Entry} → None ≡ Some r → ⊥
 never_entry e = let z : ◌≡◌ {A = ℕ} 0 1 = cc in omega arith
 
-of_key : (s : List ℕ) (x y : Stretch) {a k b m : ℕ} → ((c l : ℕ) → x ≡ stretch.At c l → c + l + 1 ≤ length s) → keyed s x y ≡ At a k b m → Keyed s a k
-of_key s (stretch.At c l) y {a} {k} {b} {m} n e =
-    by_test (Keyed s a k) (ended (original s c l))
+of_key : (s : List ℕ) (x y : Option Stretch) {r : Entry} → ((o : Stretch) → x ≡ Some o → o.start + o.len + 1 ≤ length s) → keyed s x y ≡ Some r → Keyed s r.key r.key_len
+of_key s (Some o) y {r} n e =
+    by_test (Keyed s r.key r.key_len) (ended (original s o.start o.len))
     (λ t. told y (sym (taken _ _ t) ∙ e) t)
     (λ t. absurd (never_entry (sym (left _ _ t) ∙ e)))
   where
-    told : (y : Stretch) → translated y c (id_end (original s c l)) ≡ At a k b m → ended (original s c l) ≡ true → Keyed s a k
-    told (stretch.At d j) f t =
-        let p : c ≡ a = cc in
-        let q : id_end (original s c l) ≡ k = cc in
-        rw (← p, ← q) (record { size = l; inside = n c l refl; is = key_part s c l (n c l refl) t })
-    told stretch.Absent f t = absurd (never_entry f)
-of_key s stretch.Absent y n e = absurd (never_entry e)
+    told : (y : Option Stretch) → translated y o.start (id_end (original s o.start o.len)) ≡ Some r → ended (original s o.start o.len) ≡ true → Keyed s r.key r.key_len
+    told (Some d) f t =
+        let q : record { key = o.start; key_len = id_end (original s o.start o.len); start = d.start; len = d.len } ≡ r = cc in
+        rw (← q) (record { size = o.len; inside = n o refl; is = key_part s o.start o.len (n o refl) t })
+    told None f t = absurd (never_entry f)
+of_key s None y n e = absurd (never_entry e)
 
-pub entry_key : (s : List ℕ) (t : Tables) (i : ℕ) {a k b m : ℕ} → entry s t i ≡ At a k b m → Keyed s a k
+pub entry_key : (s : List ℕ) (t : Tables) (i : ℕ) {r : Entry} → entry s t i ≡ Some r → Keyed s r.key r.key_len
 unfolding entry
 entry_key s t i e =
-    of_key s (string t.big s t.originals i) (string t.big s t.translations i) (λ c l f. string_told t.big s t.originals i f) e
+    of_key s (string t.big s t.originals i) (string t.big s t.translations i) (λ o f. string_told t.big s t.originals i f) e

@@ -14,7 +14,7 @@ use Rattle.text.proofs.Tests.{taken, left, by_test}
 use Rattle.text.proofs.Cuts.{rest_last, rest_more, rest_bound}
 use Rattle.container_layout.specs.Mo.{piece_at, segment}
 use Rattle.text.specs.declared.Stretch.{Stretch}
-use Rattle.text.specs.declared.Stretch.TheVariants.{At, Absent}
+use Rattle.std.specs.Prelude.{Option, Some, None}
 
 -- one piece is passed over
 skipped : (at k : ℕ) (p : List ℕ) (ps : List (List ℕ)) → (k ≡ 0 → ⊥) → (n : ℕ) → at + length p + 1 ≡ n → piece_at at k (p ∷ ps) ≡ piece_at n (k - 1) ps
@@ -22,7 +22,7 @@ unfolding piece_at
 skipped at zero p ps z n e = absurd (z refl)
 skipped at (suc k) p ps z n e = let q : suc k - 1 ≡ k = omega arith in rw (q, e)
 
-pub past : (at k : ℕ) (p : List ℕ) → (k ≡ 0 → ⊥) → piece_at at k (p ∷ []) ≡ Absent
+pub past : (at k : ℕ) (p : List ℕ) → (k ≡ 0 → ⊥) → piece_at at k (p ∷ []) ≡ None
 unfolding piece_at
 past at zero p z = absurd (z refl)
 past at (suc k) p z = refl
@@ -39,25 +39,25 @@ module _ (t : List ℕ) (start form : ℕ) where
     piece_length : length (take (end - at) (drop at t)) ≡ end - at
     piece_length = length-take-le (end - at) (drop at t) (omega (arith, length-drop at t, rest_bound 0 t at end e i))
 
-    pub sought_here : left ≡ 0 → At (start + at) (end - at) ≡ piece_at start form (cut 0 t)
+    pub sought_here : left ≡ 0 → Some (record { start = start + at; len = end - at }) ≡ piece_at start form (cut 0 t)
     unfolding piece_at
     sought_here z =
-        by_test (At (start + at) (end - at) ≡ piece_at start form (cut 0 t)) (ltb end (length t))
+        by_test (Some (record { start = start + at; len = end - at }) ≡ piece_at start form (cut 0 t)) (ltb end (length t))
         (λ q. sym (m ∙ rw (z, rest_more 0 t at end e (ltb-true _ _ q), piece_length)))
         (λ q. sym (m ∙ rw (z, rest_last 0 t at end e i (ltb-false _ _ q), piece_length)))
 
-    pub sought_none : (left ≡ 0 → ⊥) → length t ≤ end → Absent ≡ piece_at start form (cut 0 t)
+    pub sought_none : (left ≡ 0 → ⊥) → length t ≤ end → None ≡ piece_at start form (cut 0 t)
     sought_none z h = sym (m ∙ ap (piece_at (start + at) left) (rest_last 0 t at end e i h) ∙ past (start + at) left _ z)
 
     pub sought_on : (left ≡ 0 → ⊥) → end < length t → Sought (left - 1) (end + 1)
     sought_on z h = m ∙ ap (piece_at (start + at) left) (rest_more 0 t at end e h) ∙ skipped (start + at) left _ _ z (start + (end + 1)) (omega (arith, piece_length))
 
 module _ (s : List ℕ) (start len form : ℕ) where
-  pub segment_out : length s < start + len → Absent ≡ segment s start len form
+  pub segment_out : length s < start + len → None ≡ segment s start len form
   unfolding segment
   segment_out h = sym (left _ _ (lt-leb (start + len) (length s) h))
 
-  pub segment_in_lem : {r : Stretch} → start + len ≤ length s → r ≡ piece_at start form (cut 0 (take (start + len - start) (drop start s))) → r ≡ segment s start len form
+  pub segment_in_lem : {r : Option Stretch} → start + len ≤ length s → r ≡ piece_at start form (cut 0 (take (start + len - start) (drop start s))) → r ≡ segment s start len form
   unfolding segment
   segment_in_lem h e =
       e ∙ ap (λ (n : ℕ). piece_at start form (cut 0 (take n (drop start s)))) (add-sub_cancel_left start len)

@@ -1,13 +1,11 @@
 -- The layout of an MO file. GNU gettext manual, 10.3, "The Format of GNU MO Files", and SPEC 3.4 and 3.5.
 -- A file is a list of bytes. A part of it is told by its place: where it starts, and how long it is. Sums are taken without bound.
-use Rattle.std.specs.Prelude.{ℕ, zero, suc, ◌+◌, ◌*◌, ◌-◌, Bool, true, false, List, [], ◌∷◌, length, take, drop, get_or, leb, ltb}
+use Rattle.std.specs.Prelude.{ℕ, zero, suc, ◌+◌, ◌*◌, ◌-◌, Bool, true, false, List, [], ◌∷◌, length, take, drop, get_or, leb, ltb, Option, Some, None}
 use Rattle.text.specs.Bytes.{place}
 use Rattle.text.specs.Cut.{cut}
 use Rattle.container_layout.specs.declared.Tables.{Tables}
 use Rattle.text.specs.declared.Stretch.{Stretch}
-use Rattle.text.specs.declared.Stretch.TheVariants as stretch
 use Rattle.container_layout.specs.declared.Entry.{Entry}
-use Rattle.container_layout.specs.declared.Entry.TheVariants as entries
 
 -- a word of 32 bits, from its lowest byte on
 abbrev pub from_bytes : ℕ → ℕ → ℕ → ℕ → ℕ
@@ -26,16 +24,16 @@ has_cell s table i = leb (table + 8 * i + 8) (length s)
 abbrev pub has_string : List ℕ → ℕ → ℕ → Bool
 has_string s start len = leb (start + len + 1) (length s)
 
-abbrev pub within : List ℕ → ℕ → ℕ → Stretch
-within s start len = elim (has_string s start len) [ true ↦ stretch.At start len | false ↦ stretch.Absent ]
+abbrev pub within : List ℕ → ℕ → ℕ → Option Stretch
+within s start len = elim (has_string s start len) [ true ↦ Some (record { start = start; len = len }) | false ↦ None ]
 
 -- the string that the cell of index i names
-unfoldable pub string : Bool → List ℕ → ℕ → ℕ → Stretch
+unfoldable pub string : Bool → List ℕ → ℕ → ℕ → Option Stretch
 unfolding word
 string big s table i =
     elim (has_cell s table i) [
       | true ↦ within s (word big s (table + 8 * i + 4)) (word big s (table + 8 * i))
-      | false ↦ stretch.Absent
+      | false ↦ None
     ]
 
 -- an original is its string and the byte after it
@@ -74,29 +72,32 @@ unfolding id_end
 key o = take (id_end o) o
 
 -- the entry of index i: where its key and its translation lie
-abbrev pub translated : Stretch → ℕ → ℕ → Entry
-translated (stretch.At start len) a k = entries.At a k start len
-translated stretch.Absent a k = entries.NoEntry
+abbrev pub translated : Option Stretch → ℕ → ℕ → Option Entry
+translated (Some t) a k = Some (record { key = a; key_len = k; start = t.start; len = t.len })
+translated None a k = None
 
-abbrev pub keyed : List ℕ → Stretch → Stretch → Entry
-keyed s (stretch.At start len) t =
-    elim (ended (original s start len)) [ true ↦ translated t start (id_end (original s start len)) | false ↦ entries.NoEntry ]
-keyed s stretch.Absent t = entries.NoEntry
+abbrev pub keyed : List ℕ → Option Stretch → Option Stretch → Option Entry
+keyed s (Some o) t =
+    elim (ended (original s o.start o.len)) [
+      | true ↦ translated t o.start (id_end (original s o.start o.len))
+      | false ↦ None
+    ]
+keyed s None t = None
 
-unfoldable pub entry : List ℕ → Tables → ℕ → Entry
+unfoldable pub entry : List ℕ → Tables → ℕ → Option Entry
 unfolding string id_end
 entry s t i = keyed s (string t.big s t.originals i) (string t.big s t.translations i)
 
 -- the segments of a translation are its bytes cut at each NUL; the place of the k-th of pieces that start at a place
-unfoldable pub piece_at : ℕ → ℕ → List (List ℕ) → Stretch
-piece_at at k [] = stretch.Absent
-piece_at at zero (p ∷ ps) = stretch.At at (length p)
+unfoldable pub piece_at : ℕ → ℕ → List (List ℕ) → Option Stretch
+piece_at at k [] = None
+piece_at at zero (p ∷ ps) = Some (record { start = at; len = length p })
 piece_at at (suc k) (p ∷ ps) = piece_at (at + length p + 1) k ps
 
 abbrev pub segments : List ℕ → ℕ → ℕ → List (List ℕ)
 segments s start len = cut 0 (take len (drop start s))
 
-unfoldable pub segment : List ℕ → ℕ → ℕ → ℕ → Stretch
+unfoldable pub segment : List ℕ → ℕ → ℕ → ℕ → Option Stretch
 unfolding piece_at cut
 segment s start len form =
-    elim (leb (start + len) (length s)) [ true ↦ piece_at start form (segments s start len) | false ↦ stretch.Absent ]
+    elim (leb (start + len) (length s)) [ true ↦ piece_at start form (segments s start len) | false ↦ None ]

@@ -5,7 +5,7 @@
 ghost use Rattle.std.specs.Prelude.{◌≡◌, ◌+◌, ◌<◌, ◌≤◌, length};
 ghost use Rattle.text.specs.Bytes.{front, place};
 ghost use Rattle.text.specs.Cut.{cut};
-ghost use Rattle.container_layout.specs.Mo.{from_bytes, word, within, string, entry, segment, piece_at};
+ghost use Rattle.container_layout.specs.Mo.{word, within, string, entry, segment, piece_at};
 ghost use Rattle.container_layout.specs.Promise.{Splits};
 ghost use Rattle.container_layout.specs.Private.{plain};
 
@@ -22,11 +22,13 @@ pub struct Tables {
     pub translations: u32,
 }
 
-// Where an entry's key lies, and its translation.
+// Where an entry's key lies, and its translation: where each starts, and how long it is.
 #[derive(Clone, Copy)]
-pub enum Entry {
-    At(usize, usize, usize, usize),
-    NoEntry,
+pub struct Entry {
+    pub key: usize,
+    pub key_len: usize,
+    pub start: usize,
+    pub len: usize,
 }
 
 // A word as a number of the machine.
@@ -36,26 +38,20 @@ pub fn wide(x: u32) -> usize
     x as usize
 }
 
-// Four bytes, the lowest first, as a number.
-fn from_bytes(a: u8, b: u8, c: u8, d: u8) -> u32
-    ensures { result ≡ from_bytes a b c d }
-{
-    a as u32 + b as u32 * 256 + c as u32 * 65536 + d as u32 * 16777216
-}
-
 // The word at a place, in the file's byte order.
 pub fn read_u32(file: &[u8], at: usize, big: bool) -> u32
     requires { at + 4 ≤ length file.now }
     ensures { result ≡ word big file.now at }
 {
+    let bytes = [file[at], file[at + 1], file[at + 2], file[at + 3]];
     if big {
-        return from_bytes(file[at + 3], file[at + 2], file[at + 1], file[at]);
+        return u32::from_be_bytes(bytes);
     }
-    from_bytes(file[at], file[at + 1], file[at + 2], file[at + 3])
+    u32::from_le_bytes(bytes)
 }
 
 // The string of a cell that lies in the file.
-fn cell_at(file: &[u8], at: usize, big: bool) -> Stretch
+fn cell_at(file: &[u8], at: usize, big: bool) -> Option<Stretch>
     requires { at + 8 ≤ length file.now }
     ensures { result ≡ within file.now (word big file.now (at + 4)) (word big file.now at) }
 {
@@ -63,21 +59,21 @@ fn cell_at(file: &[u8], at: usize, big: bool) -> Stretch
     let start = wide(read_u32(file, at + 4, big));
     // the byte after the string is counted in; two words of 32 bits and 1 do not overflow
     if file.len() < start + len + 1 {
-        return Stretch::Absent;
+        return None;
     }
-    Stretch::At(start, len)
+    Some(Stretch { start, len })
 }
 
 // The string that the cell of an index names. The index may be any number, so nothing is added before it is tested.
-pub fn string_at(file: &[u8], big: bool, table: u32, i: usize) -> Stretch
+pub fn string_at(file: &[u8], big: bool, table: u32, i: usize) -> Option<Stretch>
     ensures { result ≡ string big file.now table i }
 {
     let start = wide(table);
     if file.len() < start {
-        return Stretch::Absent;
+        return None;
     }
     if (file.len() - start) / 8 <= i {
-        return Stretch::Absent;
+        return None;
     }
     cell_at(file, start + 8 * i, big)
 }
@@ -92,7 +88,7 @@ pub struct Parts {
 }
 
 // The first NUL or byte 4, or the length. Bytes from 5 on are passed over in blocks; without the last byte, which is NUL in most originals, so that
-// no block is broken off by it.
+// no block is broken off by it. The loop counts nothing: it goes on at the next byte below 5.
 fn find_mark(o: &[u8]) -> usize
     ensures { result ≡ front plain o.now }
 {
@@ -153,54 +149,52 @@ pub fn split(o: &[u8]) -> Parts
 }
 
 // Entry i by the load's tests of cells, strings and the id's ending, for any numbers and bytes.
-pub fn entry_at(file: &[u8], t: Tables, i: usize) -> Entry
+pub fn entry_at(file: &[u8], t: Tables, i: usize) -> Option<Entry>
     ensures { result ≡ entry file.now t i }
 {
-    let original = string_at(file, t.big, t.originals, i);
-    let Stretch::At(key, len) = original else {
-        return Entry::NoEntry;
-    };
-    let end = key + len + 1;
-    let parts = split(&file[key..end]);
-    if len < parts.end {
-        return Entry::NoEntry;
+    let original = string_at(file, t.big, t.originals, i)?;
+    let end = original.start + original.len + 1;
+    let parts = split(&file[original.start..end]);
+    if original.len < parts.end {
+        return None;
     }
-    let translation = string_at(file, t.big, t.translations, i);
-    let Stretch::At(start, size) = translation else {
-        return Entry::NoEntry;
-    };
-    Entry::At(key, parts.end, start, size)
+    let translation = string_at(file, t.big, t.translations, i)?;
+    Some(Entry {
+        key: original.start,
+        key_len: parts.end,
+        start: translation.start,
+        len: translation.len,
+    })
 }
 
 // The place of a segment, of those of a translation that starts at a place of its file.
-fn segment_in(translation: &[u8], start: usize, form: u64) -> Stretch
+fn segment_in(translation: &[u8], start: usize, form: u64) -> Option<Stretch>
     requires { start + length translation.now < 18446744073709551616 }
     ensures { result ≡ piece_at start form (cut 0 translation.now) }
 {
-    let mut left = form;
     let mut at = 0;
-    loop {
+    for passed in 0..form {
         let end = text::find_byte_from(translation, at, 0);
-        if left == 0 {
-            return Stretch::At(start + at, end - at);
-        }
         if translation.len() <= end {
-            return Stretch::Absent;
+            return None;
         }
-        left -= 1;
         at = end + 1;
     }
+    Some(Stretch {
+        start: start + at,
+        len: text::find_byte_from(translation, at, 0) - at,
+    })
 }
 
 // The place of a segment of the translation at a place, counted from 0, where there are that many.
-pub fn segment_at(file: &[u8], start: usize, len: usize, form: u64) -> Stretch
+pub fn segment_at(file: &[u8], start: usize, len: usize, form: u64) -> Option<Stretch>
     ensures { result ≡ segment file.now start len form }
 {
     if file.len() < start {
-        return Stretch::Absent;
+        return None;
     }
     if file.len() - start < len {
-        return Stretch::Absent;
+        return None;
     }
     let end = start + len;
     segment_in(&file[start..end], start, form)

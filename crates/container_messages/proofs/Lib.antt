@@ -1,3 +1,4 @@
+pub mod Placed
 pub mod Originals
 pub mod Entries
 pub mod Accepts

@@ -13,57 +13,60 @@ use Rattle.text.specs.Cut.{cut}
 use Rattle.text.proofs.Tests.{taken, left, by_test}
 use Rattle.text.proofs.Cuts.{cut_first, cut_whole, place_length}
 use Rattle.text.specs.declared.Stretch.{Stretch}
-use Rattle.text.specs.declared.Stretch.TheVariants.{At, Absent}
+use Rattle.std.specs.Prelude.{Option, Some, None, Result, Ok, Err}
+use Rattle.header_fields.specs.Fields.{shift}
+use Rattle.header_fields.specs.Promise.{start_of, end_of}
 use Rattle.header.specs.Header.{metadata}
 use Rattle.header.specs.declared.Metadata.{Metadata}
-use Rattle.header.specs.declared.Metadata.TheVariants.{Malformed, Fields}
 use Rattle.header.proofs.Ends.{Inside, fields_end}
-use Rattle.header_forms.specs.declared.Forms.{Forms}
 use Rattle.container_layout.specs.Mo.{segments}
 use Rattle.refusal.specs.Places.{at, in_header}
 use Rattle.refusal.specs.declared.Error.TheVariants.{MalformedMetadata, UnknownEncoding}
 use Rattle.container_rule.specs.Rule.{label_ok, headed, rule_at, segment0, shifted, header_at}
 use Rattle.container_rule.specs.Promise.{end_of_rule}
 use Rattle.container_rule.specs.declared.First.{First}
-use Rattle.container_rule.specs.declared.First.TheVariants.{Rule, Refused}
+use Rattle.refusal.specs.declared.Refusal.{Refusal}
 
 -- where the rule lies
-module _ (forced utf8 : Bool) (h : List ℕ) {m : Metadata} (e : m ≡ metadata h) where
-  pub malformed : m ≡ Malformed → Refused (at in_header MalformedMetadata) ≡ rule_at forced utf8 h
+module _ (forced utf8 : Bool) (h : List ℕ) {x : Option Metadata} (e : x ≡ metadata h) where
+  pub malformed : x ≡ None → Err (at in_header MalformedMetadata) ≡ rule_at forced utf8 h
   unfolding rule_at
   malformed f = rw (← e, f)
 
-  module _ {p q : Stretch} {n : Forms} (f : m ≡ Fields p q n) where
-    pub inside : Inside h p q
+  module _ {m : Metadata} (f : x ≡ Some m) where
+    pub inside : Inside h m
     inside = fields_end h (sym e ∙ f)
 
-    at_fields : rule_at forced utf8 h ≡ headed forced utf8 h (Fields p q n)
+    at_fields : rule_at forced utf8 h ≡ headed forced utf8 h (Some m)
     unfolding rule_at
     at_fields = rw (← e, f)
 
-    module _ {k : Bool} (g : k ≡ (utf8 || label_ok h p)) where
-      pub unknown : k ≡ false → Refused (at in_header UnknownEncoding) ≡ rule_at forced utf8 h
+    module _ {k : Bool} (g : k ≡ (utf8 || label_ok h m.charset)) where
+      pub unknown : k ≡ false → Err (at in_header UnknownEncoding) ≡ rule_at forced utf8 h
       unknown t = sym (at_fields ∙ left _ _ (sym g ∙ t))
 
-      pub rule_forced : k ≡ true → forced ≡ true → Rule Absent n ≡ rule_at forced utf8 h
-      rule_forced t u = sym (at_fields ∙ taken _ _ (sym g ∙ t) ∙ ap (λ (x : Stretch). Rule x n) (taken _ _ u))
+      pub rule_told : k ≡ true → {p : Option Stretch} → p ≡ elim forced [ true ↦ None | false ↦ m.rule ] → Ok (record { rule = p; forms = m.forms }) ≡ rule_at forced utf8 h
+      rule_told t u = rw u (sym (at_fields ∙ taken _ _ (sym g ∙ t)))
 
-      pub rule_given : k ≡ true → forced ≡ false → Rule q n ≡ rule_at forced utf8 h
-      rule_given t u = sym (at_fields ∙ taken _ _ (sym g ∙ t) ∙ ap (λ (x : Stretch). Rule x n) (left _ _ u))
-
-headed_end : (forced utf8 : Bool) (h : List ℕ) (m : Metadata) → metadata h ≡ m → end_of_rule (headed forced utf8 h m) ≤ length h
-headed_end forced utf8 h Malformed e = omega arith
-headed_end forced utf8 h (Fields p q n) e =
-    by_test (end_of_rule (headed forced utf8 h (Fields p q n)) ≤ length h) (utf8 || label_ok h p)
-    (λ t.
-    by_test (end_of_rule (headed forced utf8 h (Fields p q n)) ≤ length h) forced
-    (λ u. let z : headed forced utf8 h (Fields p q n) ≡ Rule Absent n = taken _ _ t ∙ ap (λ (x : Stretch). Rule x n) (taken _ _ u) in rw z (omega arith))
-    (λ u. let z : headed forced utf8 h (Fields p q n) ≡ Rule q n = taken _ _ t ∙ ap (λ (x : Stretch). Rule x n) (left _ _ u) in rw z (fields_end h e).rule))
-    (λ t. let z : headed forced utf8 h (Fields p q n) ≡ Refused (at in_header UnknownEncoding) = left _ _ t in rw z (omega arith))
+headed_end : (forced utf8 : Bool) (h : List ℕ) (x : Option Metadata) → metadata h ≡ x → end_of_rule (headed forced utf8 h x) ≤ length h
+headed_end forced utf8 h None e = omega arith
+headed_end forced utf8 h (Some m) e =
+    by_test (end_of_rule (headed forced utf8 h (Some m)) ≤ length h) (utf8 || label_ok h m.charset)
+    (λ t. let z : headed forced utf8 h (Some m) ≡ Ok (record { rule = elim forced [ true ↦ None | false ↦ m.rule ]; forms = m.forms }) = taken _ _ t in
+    rw z (by_forced forced))
+    (λ t. let z : headed forced utf8 h (Some m) ≡ Err (at in_header UnknownEncoding) = left _ _ t in rw z (omega arith))
+  where
+    by_forced : (b : Bool) → end_of (elim b [ true ↦ None | false ↦ m.rule ]) ≤ length h
+    by_forced true = omega arith
+    by_forced false = (fields_end h e).rule
 
 pub rule_ends : (forced utf8 : Bool) (h : List ℕ) → end_of_rule (rule_at forced utf8 h) ≤ length h
 unfolding rule_at
 rule_ends forced utf8 h = headed_end forced utf8 h (metadata h) refl
+
+start_below : (p : Option Stretch) → start_of p ≤ end_of p
+start_below (Some p) = omega arith
+start_below None = omega arith
 
 -- segment 0: up to the first NUL
 segment_zero : (x : List ℕ) → segment0 (cut 0 x) ≡ take (place 0 x) x
@@ -102,21 +105,27 @@ module _ (s : List ℕ) (start len : ℕ) (i : start + len ≤ length s) where
     part_length : length (take (start + p - start) (drop start s)) ≤ p
     part_length = omega (arith, length-take (start + p - start) (drop start s))
 
-    pub rule_fits : (forced utf8 : Bool) {f : First} → f ≡ rule_at forced utf8 (take (start + p - start) (drop start s)) → start + end_of_rule f ≤ length s
+    pub rule_fits : (forced utf8 : Bool) {f : Result First Refusal} → f ≡ rule_at forced utf8 (take (start + p - start) (drop start s)) → start + end_of_rule f ≤ length s
     rule_fits forced utf8 {f} g =
         let z : end_of_rule f ≤ length (take (start + p - start) (drop start s)) = rw g (rule_ends forced utf8 (take (start + p - start) (drop start s))) in
         omega (arith, part_length, p_in)
 
-    pub header_told : (forced utf8 : Bool) {f r : First} → f ≡ rule_at forced utf8 (take (start + p - start) (drop start s)) → r ≡ shifted start f → r ≡ header_at forced utf8 s start len
+    pub start_fits : (forced utf8 : Bool) {f : First} → Ok f ≡ rule_at forced utf8 (take (start + p - start) (drop start s)) → start + start_of f.rule ≤ length s
+    start_fits forced utf8 {f} g = omega (arith, rule_fits forced utf8 g, start_below f.rule)
+
+    pub header_told : (forced utf8 : Bool) {f r : Result First Refusal} → f ≡ rule_at forced utf8 (take (start + p - start) (drop start s)) → r ≡ shifted start f → r ≡ header_at forced utf8 s start len
     header_told forced utf8 g k = k ∙ ap (shifted start) (g ∙ ap (rule_at forced utf8) header_part)
 
   zero_length : start + length (segment0 (segments s start len)) ≤ length s
   zero_length = omega (arith, ap length zero_part, length-take (place 0 (take len (drop start s))) (drop start s), tail_length, place_length 0 (take len (drop start s)))
 
-  shifted_end : (f : First) (n : ℕ) → end_of_rule f ≤ n → start + n ≤ length s → end_of_rule (shifted start f) ≤ length s
-  shifted_end (Rule (At a l) m) n h k = omega arith
-  shifted_end (Rule Absent m) n h k = omega arith
-  shifted_end (Refused e) n h k = omega arith
+  shifted_end : (f : Result First Refusal) (n : ℕ) → end_of_rule f ≤ n → start + n ≤ length s → end_of_rule (shifted start f) ≤ length s
+  shifted_end (Ok f) n h k = by_place f.rule h
+    where
+      by_place : (p : Option Stretch) → end_of p ≤ n → end_of (shift start p) ≤ length s
+      by_place (Some p) j = omega arith
+      by_place None j = omega arith
+  shifted_end (Err e) n h k = omega arith
 
   pub at_end : (forced utf8 : Bool) → end_of_rule (header_at forced utf8 s start len) ≤ length s
   at_end forced utf8 = shifted_end (rule_at forced utf8 (segment0 (segments s start len))) (length (segment0 (segments s start len))) (rule_ends forced utf8 (segment0 (segments s start len))) zero_length

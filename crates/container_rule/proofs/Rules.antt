@@ -1,30 +1,32 @@
 -- The stages that read a rule. Assumes nothing.
 use Prim.Native.Nat.{ℕ}
-use mathlib.Core.Path.{◌≡◌, refl}
+use mathlib.Core.Path.{◌≡◌, ap}
 use mathlib.Core.List.{List}
-use Rattle.refusal.specs.declared.Outcome.TheVariants as outcome
+use Rattle.std.specs.Prelude.{Option, Some, None, Result, Ok, Err}
+use Rattle.refusal.specs.declared.Refusal.{Refusal}
 use Rattle.rules.specs.Tree.{Tree}
 use Rattle.rules.specs.Pool.{Pool}
 use Rattle.rules.specs.Pack.{packed_size, packed}
 use Rattle.reading_rule.specs.Plurals.{rule, Parses}
 use Rattle.reading_rule.specs.declared.Reading.{Reading}
-use Rattle.reading_rule.specs.declared.Parsed.{Parsed}
-use Rattle.text.specs.declared.Stretch.TheVariants.{At, Absent}
-use Rattle.container_rule.specs.Rule.{rule_in}
-use Rattle.container_rule.specs.Promise.{Chosen, Chooses}
+use Rattle.text.specs.declared.Stretch.{Stretch}
+use Rattle.container_rule.specs.Rule.{rule_by, rule_in}
+use Rattle.container_rule.specs.Promise.{Taken, Chosen, Chooses}
 use Rattle.container_rule.specs.declared.First.{First}
-use Rattle.container_rule.specs.declared.First.TheVariants as first
 
 -- a tree alone in the arrays, of k nodes, is a rule
-pub a_rule : {t : Tree} {Q : Pool} {k : ℕ} → Q ≡ packed t → k ≡ packed_size t → Parses (rule t) Q (record { outcome = outcome.Loaded; nodes = k })
-a_rule e f = record { outcome = refl; nodes = f; stored = e }
+pub a_rule : {t : Tree} {Q : Pool} {k : ℕ} → Q ≡ packed t → k ≡ packed_size t → Parses (rule t) Q (Ok k)
+a_rule e f = record { outcome = ap Ok f; stored = e }
 
 -- the stage's rule, whatever tree was there before
-module _ (reading : Reading) (s : List ℕ) (t : Tree) {k : ℕ} {P Q : Pool} {r : Parsed} (stored : P ≡ packed t) (nodes : k ≡ packed_size t) where
-  by_place : (f : First) → Chosen reading s f k P Q r → Parses (rule_in reading s t f) Q r
-  by_place (first.Rule (At a l) m) p = p
-  by_place (first.Rule Absent m) p = rw (p.0, p.1) (a_rule stored nodes)
-  by_place (first.Refused e) p = p
+module _ (reading : Reading) (s : List ℕ) (t : Tree) {k : ℕ} {P Q : Pool} {r : Result ℕ Refusal} (stored : P ≡ packed t) (nodes : k ≡ packed_size t) where
+  by_place : (p : Option Stretch) → Taken reading s p k P Q r → Parses (rule_by reading s t p) Q r
+  by_place (Some p) c = c
+  by_place None c = rw (c.0, c.1) (a_rule stored nodes)
 
-  pub choosing : (f : First) → Chooses reading s f k P Q r → Parses (rule_in reading s t f) Q r
-  choosing f c = by_place f c.chosen
+  by_first : (f : Result First Refusal) → Chosen reading s f k P Q r → Parses (rule_in reading s t f) Q r
+  by_first (Ok f) c = by_place f.rule c
+  by_first (Err e) c = c
+
+  pub choosing : (f : Result First Refusal) → Chooses reading s f k P Q r → Parses (rule_in reading s t f) Q r
+  choosing f c = by_first f c.chosen

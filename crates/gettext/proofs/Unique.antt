@@ -33,10 +33,10 @@ answer_gettext_one κs a u v x y p q = p ∙ sym q
 pub answer_pgettext_one : One 3 answer-pgettext-kinds.ps answer-pgettext-kinds.r answer-pgettext.Post
 answer_pgettext_one κs a u v x y p q = p ∙ sym q
 
-pub answer_ngettext_one : One 1 answer-ngettext-kinds.ps answer-ngettext-kinds.r answer-ngettext.Post
+pub answer_ngettext_one : One 2 answer-ngettext-kinds.ps answer-ngettext-kinds.r answer-ngettext.Post
 answer_ngettext_one κs a u v x y p q = p ∙ sym q
 
-pub answer_npgettext_one : One 1 answer-npgettext-kinds.ps answer-npgettext-kinds.r answer-npgettext.Post
+pub answer_npgettext_one : One 3 answer-npgettext-kinds.ps answer-npgettext-kinds.r answer-npgettext.Post
 answer_npgettext_one κs a u v x y p q = p ∙ sym q
 
 pub rating_one : One 0 rating-kinds.ps rating-kinds.r rating.Post

@@ -6,12 +6,13 @@ use mathlib.Core.Path.{◌≡◌, refl, sym, ap, ◌∙◌}
 use mathlib.Core.List.{List}
 use native.Mathlib.Omega.{arith}
 use lib.ListN.{length, take}
+use Rattle.std.specs.Prelude.{Result, Ok, Err}
 use Rattle.refusal.specs.declared.Where.{Where}
 use Rattle.rules.specs.Tree.{Tree, default_tree}
 use Rattle.rules.specs.Pool.{Pool, tree_of}
 use Rattle.rules_text.specs.Writing.{writing_of}
-use Rattle.rules_text.specs.declared.Writing.{Writing}
-use Rattle.rules_text.specs.declared.Writing.TheVariants as writing
+use Rattle.rules_text.specs.declared.Unwritten.{Unwritten}
+use Rattle.rules_text.specs.declared.Unwritten.TheVariants as unwritten
 use Rattle.reading_rule.specs.Plurals as plurals
 use Rattle.reading_rule.specs.Plurals.{Parse, rule, parsed}
 use Rattle.reading_rule.specs.declared.Reading.{Reading}
@@ -33,17 +34,17 @@ use Rattle.gettext_c.specs.Record.{Loads, Writes}
 use Rattle.gettext_c.proofs.Fresh.{was_accepted, fresh_tree}
 
 -- number 0 beside a length is all that a text has
-with_length : (w : Writing) → (host.written_of w).number ≡ 0 → w ≡ writing.Length (host.written_of w).len
-with_length (writing.Length n) e = refl
-with_length writing.TooLong e = absurd (omega arith)
-with_length writing.NoTree e = absurd (omega arith)
+with_length : (w : Result ℕ Unwritten) → (host.written_of w).number ≡ 0 → w ≡ Ok (host.written_of w).len
+with_length (Ok n) e = refl
+with_length (Err unwritten.TooLong) e = absurd (omega arith)
+with_length (Err unwritten.NoTree) e = absurd (omega arith)
 
 -- any record
 module _ {P : Pool} {h old new : List ℕ} {w : Written} (writes : Writes P h old new w) (number_0 : w.number ≡ 0) where
   read_again : (place : Where) (reading : Reading) → Knows reading (tree_of P (root_in h)) → parsed place reading (take w.len new) ≡ rule (tree_of P (root_in h))
   read_again place reading k =
-      let x : Writing = writing_of P (nodes_in h) (root_in h) (length old) in
-      let e : x ≡ writing.Length w.len = with_length x (ap (λ (r : Written). r.number) (sym writes.answer) ∙ number_0) ∙ ap (λ (r : Written). writing.Length r.len) (sym writes.answer) in
+      let x : Result ℕ Unwritten = writing_of P (nodes_in h) (root_in h) (length old) in
+      let e : x ≡ Ok w.len = with_length x (ap (λ (r : Written). r.number) (sym writes.answer) ∙ number_0) ∙ ap (λ (r : Written). Ok r.len) (sym writes.answer) in
       ap (λ (s : List ℕ). parsed place reading (take w.len s)) writes.left
       ∙ written_again P place reading (nodes_in h) (root_in h) w.len old k e writes.bounded
 

@@ -12,6 +12,7 @@ use native.Mathlib.Omega.{arith}
 use lib.ListN.{length, get_or, take, drop}
 use contract.Lifetimes.{Lfts}
 use borrow.Fn.Kinds.{ParamKind, Dens, In}
+use Rattle.std.specs.Prelude.{Option, Some, None, Result, Ok, Err}
 use Rattle.text_trim.specs.Trim.{trim, white_space}
 use Rattle.text_utf8.specs.Utf8.{utf8}
 use Rattle.text_utf8.specs.Scalar.{Text}
@@ -26,27 +27,18 @@ use Rattle.rules.specs.Value.{eval_tree, truth}
 use Rattle.rules.specs.Pool.{Pool}
 use Rattle.rules.specs.Pack.{packed, packed_size}
 use Rattle.rules.specs.Answer.{form_of, fitting, resolved_of, rated_of, fit_of}
-use Rattle.rules.specs.declared.Value.{Value}
-use Rattle.rules.specs.declared.Value.TheVariants as value
-use Rattle.rules.specs.declared.Resolved.{Resolved}
-use Rattle.rules.specs.declared.Resolved.TheVariants as resolved
-use Rattle.rules.specs.declared.Rated.{Rated}
-use Rattle.rules.specs.declared.Rated.TheVariants as rated
-use Rattle.rules.specs.declared.Fit.{Fit}
-use Rattle.rules.specs.declared.Fit.TheVariants as fit
+use Rattle.rules.specs.declared.NoForm.{NoForm}
+use Rattle.rules.specs.declared.NoTree.{NoTree}
 use Rattle.rules.proofs.Forms.{rated_forms}
 use Rattle.rules.proofs.Fits.{Ranged, fits_ranged}
 use Rattle.reading_rule.specs.Plurals.{rule, parsed}
 use Rattle.reading_rule.specs.declared.Reading.TheVariants.{Standard}
 use Rattle.reading_rule.proofs.Meaning.{IsRule, standard_exactly}
-use Rattle.header_forms.specs.declared.Forms.{Forms}
-use Rattle.header_forms.specs.declared.Forms.TheVariants.{Given, Absent}
 use Rattle.container_layout.specs.Mo.{segment, segments}
 use Rattle.text.specs.declared.Stretch.{Stretch}
-use Rattle.text.specs.declared.Stretch.TheVariants as stretch
 use Rattle.container_layout.specs.declared.Tables.{Tables}
 use Rattle.lookup_scan.specs.Keys.{last_with}
-use Rattle.lookup_scan.specs.declared.Hit.TheVariants as hit
+use Rattle.lookup_scan.specs.declared.Hit.{Hit}
 use Rattle.lookup_scan.proofs.Last.{Last, last_hit_lem}
 use Rattle.lookup.specs.Lookup.{by_segment, by_entry, plural, number}
 use Rattle.lookup.specs.declared.Reason.{Reason}
@@ -135,7 +127,7 @@ refused_number own (reason.TooFewSegments j) i n = absurd (n refl)
 refused_number own (reason.Answered j form start len) i n = absurd (n refl)
 
 -- the rule's value is v, form 0 for a lookup without a count
-pub refused_lookup : (s h key : List ℕ) (v : Resolved) (own : ℕ) → ((answer_of own (plural s (tables_in h) v (last_with s (tables_in h) key))).number ≡ 0 → ⊥)
+pub refused_lookup : (s h key : List ℕ) (v : Result ℕ NoForm) (own : ℕ) → ((answer_of own (plural s (tables_in h) v (last_with s (tables_in h) key))).number ≡ 0 → ⊥)
     → ((answer_of own (plural s (tables_in h) v (last_with s (tables_in h) key))).which ≡ own)
     × Refused (answer_of own (plural s (tables_in h) v (last_with s (tables_in h) key))).number
 refused_lookup s h key v own n =
@@ -175,9 +167,9 @@ module _ (o : Options) (f s : List ℕ) {Q : Pool} {r : Loaded} (loads : Loads (
   pub told_forms : forms_in r.counted r.forms ≡ answer.forms_in (load o f s)
   told_forms = ap₂ forms_in loads.counted_is loads.forms_are ∙ back (answer.forms_in (load o f s))
     where
-      back : (n : Forms) → forms_in (counted_by n) (count_by n) ≡ n
-      back (Given k) = refl
-      back Absent = refl
+      back : (n : Option ℕ) → forms_in (counted_by n) (count_by n) ≡ n
+      back (Some k) = refl
+      back None = refl
 
   pub demand_2_accepts : r.number ≡ 0 → IsCatalog o f s Q r
   demand_2_accepts e =
@@ -188,7 +180,7 @@ module _ (o : Options) (f s : List ℕ) {Q : Pool} {r : Loaded} (loads : Loads (
         head = loads.head_is ∙ ap (λ (t : Tables). head_of t (packed_size (tree_in (load o f s)))) (sym loads.tables_are);
       }
 
-  pub demand_2_accepted : (t : Tables) (u : Tree) (n : Forms) → Accepts o f s t u n
+  pub demand_2_accepted : (t : Tables) (u : Tree) (n : Option ℕ) → Accepts o f s t u n
       → (r.number ≡ 0) × (tables_in r.head ≡ t) × (r.head ≡ head_of t (packed_size u)) × (Q ≡ packed u) × (forms_in r.counted r.forms ≡ n)
   demand_2_accepted t u n w =
       let e = (accepted_exactly o f s t u n).1 w in (
@@ -229,35 +221,35 @@ demand_2_rule w f t = standard_exactly w f t
 -- 3. The rule that was loaded, at a count: it takes no remainder by zero, and yields a form from lo to hi, so below k.
 pub record Yields (t : Tree) (lo hi k n : ℕ) : Type 0 where
   pub form : ℕ
-  pub value : eval_tree t n ≡ value.Is form
+  pub value : eval_tree t n ≡ Some form
   pub low : lo ≤ form
   pub high : form ≤ hi
   pub below : form < k
 
--- An answer is the segment of entry i that a form names: the place in the file where that entry's translation has it, and its bytes.
-pub record IsSegment (s : List ℕ) (i start len form : ℕ) (a : host-answer.Answer) : Type 0 where
+-- An answer is the segment of an entry that a form names: the place in the file where that entry's translation has it, and its bytes.
+pub record IsSegment (s : List ℕ) (h : Hit) (form : ℕ) (a : host-answer.Answer) : Type 0 where
   pub number_0 : a.number ≡ 0
   pub which_0 : a.which ≡ 0
-  pub entry_is : a.entry ≡ i
+  pub entry_is : a.entry ≡ h.entry
   pub form_is : a.form ≡ form
-  pub place : segment s start len form ≡ stretch.At a.start a.len
+  pub place : segment s h.start h.len form ≡ Some (record { start = a.start; len = a.len })
   pub inside : a.start + a.len ≤ length s
-  pub bytes : take a.len (drop a.start s) ≡ get_or (segments s start len) form []
+  pub bytes : take a.len (drop a.start s) ≡ get_or (segments s h.start h.len) form []
 
-formed : (v : Value) {x : ℕ} → form_of v ≡ resolved.Form x → v ≡ value.Is x
-formed (value.Is y) {x} e = let q : y ≡ x = cc in rw q
-formed value.ZeroModulus e = absurd (let z : ◌≡◌ {A = ℕ} 0 1 = cc in omega arith)
+formed : (v : Option ℕ) {x : ℕ} → form_of v ≡ Ok x → v ≡ Some x
+formed (Some y) {x} e = let q : y ≡ x = cc in rw q
+formed None e = absurd (let z : ◌≡◌ {A = ℕ} 0 1 = cc in omega arith)
 
 -- what a host reads off a rating and off a fit
-rated_1 : (x : Rated) → (rating_of x).rated ≡ 1 → x ≡ rated.Range (rating_of x).lowest (rating_of x).highest
-rated_1 (rated.Range l h) e = refl
-rated_1 rated.Unrated e = absurd (omega arith)
-rated_1 rated.NoTree e = absurd (omega arith)
+rated_1 : (x : Result (Option (ℕ × ℕ)) NoTree) → (rating_of x).rated ≡ 1 → x ≡ Ok (Some ((rating_of x).lowest, (rating_of x).highest))
+rated_1 (Ok (Some (l, h))) e = refl
+rated_1 (Ok None) e = absurd (omega arith)
+rated_1 (Err x) e = absurd (omega arith)
 
-fits_1 : (x : Fit) → (fits_of x).fits ≡ 1 → x ≡ fit.Yes
-fits_1 fit.Yes e = refl
-fits_1 fit.No e = absurd (omega arith)
-fits_1 fit.NoTree e = absurd (omega arith)
+fits_1 : (x : Result Bool NoTree) → (fits_of x).fits ≡ 1 → x ≡ Ok true
+fits_1 (Ok true) e = refl
+fits_1 (Ok false) e = absurd (omega arith)
+fits_1 (Err x) e = absurd (omega arith)
 
 -- an accepted load, and the record unaltered
 module _ (o : Options) (f s : List ℕ) {Q : Pool} {r : Loaded} (loads : Loads (load o f s) Q r) (number_0 : r.number ≡ 0) where
@@ -266,13 +258,13 @@ module _ (o : Options) (f s : List ℕ) {Q : Pool} {r : Loaded} (loads : Loads (
   pub record Kept (lo hi k n : ℕ) : Type 0 where
     pub yields : Yields (tree_in (load o f s)) lo hi k n
     pub told : value_of (resolved_of Q (nodes_in r.head) (root_in r.head) n) ≡ record { number = 0; form = yields.form }
-    pub answers : (key : List ℕ) (i start len : ℕ) → Last s (tables_in r.head) key (tables_in r.head).count i start len → k ≤ length (segments s start len)
-        → IsSegment s i start len yields.form (answer_of (own_for n) (counted s r.head Q key n))
+    pub answers : (key : List ℕ) (h : Hit) → Last s (tables_in r.head) key (tables_in r.head).count h → k ≤ length (segments s h.start h.len)
+        → IsSegment s h yields.form (answer_of (own_for n) (counted s r.head Q key n))
 
-  abbrev pub range : Rated
+  abbrev pub range : Result (Option (ℕ × ℕ)) NoTree
   range = rated_of Q (nodes_in r.head) (root_in r.head)
 
-  kept : {lo hi : ℕ} → range ≡ rated.Range lo hi → (k : ℕ) → hi < k → (n : ℕ) → n < 2 ^ 64 → Kept lo hi k n
+  kept : {lo hi : ℕ} → range ≡ Ok (Some (lo, hi)) → (k : ℕ) → hi < k → (n : ℕ) → n < 2 ^ 64 → Kept lo hi k n
   kept {lo} {hi} is k below n count =
       let v = rated_forms Q (nodes_in r.head) (root_in r.head) lo hi is n count in
       record {
@@ -284,40 +276,43 @@ module _ (o : Options) (f s : List ℕ) {Q : Pool} {r : Loaded} (loads : Loads (
           below = omega (arith, v.high);
         };
         told = ap value_of v.is;
-        answers = λ key i start len w m.
+        answers = λ key h w m.
             let a = rated_lookup s (tables_in r.head) Q (nodes_in r.head) (root_in r.head) key lo hi k n is below count (fresh_length o f s loads number_0)
             (last_hit_lem s (tables_in r.head) key w) m in
             named v.is a (placed key v.is (last_hit_lem s (tables_in r.head) key w) a);
       }
     where
-      same_form : {x y : ℕ} {u : Resolved} → u ≡ resolved.Form x → u ≡ resolved.Form y → y ≡ x
+      same_form : {x y : ℕ} {u : Result ℕ NoForm} → u ≡ Ok x → u ≡ Ok y → y ≡ x
       same_form e g = cc
 
       -- the place is that of the entry's own translation
-      by_stretch : {i form at size : ℕ} (y : Stretch) → by_segment i form y ≡ reason.Answered i form at size → y ≡ stretch.At at size
-      by_stretch (stretch.At b m) e = cc
-      by_stretch stretch.Absent e = let z : ◌≡◌ {A = ℕ} 0 1 = cc in absurd (omega arith)
+      by_stretch : {i form at size : ℕ} (y : Option Stretch) → by_segment i form y ≡ reason.Answered i form at size → y ≡ Some (record { start = at; len = size })
+      by_stretch {at = at} {size = size} (Some p) e =
+          let a : p.start ≡ at = cc in
+          let b : p.len ≡ size = cc in
+          ap₂ (λ (x y : ℕ). Some (record { start = x; len = y })) a b
+      by_stretch None e = let z : ◌≡◌ {A = ℕ} 0 1 = cc in absurd (omega arith)
 
-      placed : (key : List ℕ) {i start len x : ℕ} → resolved_of Q (nodes_in r.head) (root_in r.head) n ≡ resolved.Form x → last_with s (tables_in r.head) key ≡ hit.At i start len
-          → (a : Names s (resolved_of Q (nodes_in r.head) (root_in r.head) n) i start len lo hi (counted s r.head Q key n)) → segment s start len x ≡ stretch.At a.at a.size
-      placed key {i} {start} {len} {x} e g a =
+      placed : (key : List ℕ) {h : Hit} {x : ℕ} → resolved_of Q (nodes_in r.head) (root_in r.head) n ≡ Ok x → last_with s (tables_in r.head) key ≡ Some h
+          → (a : Names s (resolved_of Q (nodes_in r.head) (root_in r.head) n) h.entry h.start h.len lo hi (counted s r.head Q key n)) → segment s h.start h.len x ≡ Some (record { start = a.at; len = a.size })
+      placed key {h} {x} e g a =
           let q : a.form ≡ x = same_form e a.value in
           let y : by_entry s x (last_with s (tables_in r.head) key) ≡ counted s r.head Q key n =
           by_rule_lem s (tables_in r.head) (resolved_of Q (nodes_in r.head) (root_in r.head) n) (last_with s (tables_in r.head) key) (fresh_length o f s loads number_0) refl e refl in
-          by_stretch (segment s start len x) (sym (ap (by_entry s x) g) ∙ y ∙ a.is ∙ ap (λ (m : ℕ). reason.Answered i m a.at a.size) q)
+          by_stretch (segment s h.start h.len x) (sym (ap (by_entry s x) g) ∙ y ∙ a.is ∙ ap (λ (m : ℕ). reason.Answered h.entry m a.at a.size) q)
 
-      named : {i start len x : ℕ} {u : Resolved} {c : Reason} → u ≡ resolved.Form x → (a : Names s u i start len lo hi c) → segment s start len x ≡ stretch.At a.at a.size
-          → IsSegment s i start len x (answer_of (own_for n) c)
-      named {i} {start} {len} {x} {c = c} e a p =
+      named : {h : Hit} {x : ℕ} {u : Result ℕ NoForm} {c : Reason} → u ≡ Ok x → (a : Names s u h.entry h.start h.len lo hi c) → segment s h.start h.len x ≡ Some (record { start = a.at; len = a.size })
+          → IsSegment s h x (answer_of (own_for n) c)
+      named {h} {x} {c = c} e a p =
           let q : a.form ≡ x = same_form e a.value in
-          let z : c ≡ reason.Answered i x a.at a.size = a.is ∙ ap (λ (m : ℕ). reason.Answered i m a.at a.size) q in
-          let t : take a.size (drop a.at s) ≡ get_or (segments s start len) x [] = a.text ∙ ap (λ (m : ℕ). get_or (segments s start len) m []) q in
+          let z : c ≡ reason.Answered h.entry x a.at a.size = a.is ∙ ap (λ (m : ℕ). reason.Answered h.entry m a.at a.size) q in
+          let t : take a.size (drop a.at s) ≡ get_or (segments s h.start h.len) x [] = a.text ∙ ap (λ (m : ℕ). get_or (segments s h.start h.len) m []) q in
           rw z (record { number_0 = refl; which_0 = refl; entry_is = refl; form_is = refl; place = p; inside = a.inside; bytes = t })
 
   -- by the rating: `rated` is 1 and the highest is below k
   pub demand_3 : (q : Rating) → q ≡ rating_of range → q.rated ≡ 1 → (k : ℕ) → q.highest < k → (n : ℕ) → n < 2 ^ 64 → Kept q.lowest q.highest k n
   demand_3 q e g k below n count =
-      let x : range ≡ rated.Range q.lowest q.highest = rw e (rated_1 range (rw e at g)) in
+      let x : range ≡ Ok (Some (q.lowest, q.highest)) = rw e (rated_1 range (rw e at g)) in
       kept x k below n count
 
   -- by `fits`, which is 1: the rule then has a range, whose highest is below k
@@ -327,24 +322,24 @@ module _ (o : Options) (f s : List ℕ) {Q : Pool} {r : Loaded} (loads : Loads (
 
   pub demand_3_fits : (k : ℕ) (q : Fits) → q ≡ fits_of (fit_of Q (nodes_in r.head) (root_in r.head) k) → q.fits ≡ 1 → (n : ℕ) → n < 2 ^ 64 → Fitting k n
   demand_3_fits k q e g n count =
-      let x : fit_of Q (nodes_in r.head) (root_in r.head) k ≡ fit.Yes = fits_1 _ (rw e at g) in
+      let x : fit_of Q (nodes_in r.head) (root_in r.head) k ≡ Ok true = fits_1 _ (rw e at g) in
       let w = fits_ranged Q (nodes_in r.head) (root_in r.head) k x in
       record { range = w; kept = kept w.is k w.below n count }
 
   -- Loaded with the demand that the rule fit the header's count: whatever the count, a plural lookup whose last entry with the key stores at least as
   -- many segments as the header says answers one of these first segments, with number 0: the one that the rule's value names.
-  pub record OneOf (n i start len : ℕ) (a : host-answer.Answer) : Type 0 where
+  pub record OneOf (n : ℕ) (h : Hit) (a : host-answer.Answer) : Type 0 where
     pub form : ℕ
-    pub value : eval_tree (tree_in (load o f s)) n ≡ value.Is form
+    pub value : eval_tree (tree_in (load o f s)) n ≡ Some form
     pub below : form < r.forms
-    pub among : form < length (segments s start len)
-    pub is : IsSegment s i start len form a
+    pub among : form < length (segments s h.start h.len)
+    pub is : IsSegment s h form a
 
-  pub fit_answers : o.fit ≡ true → (n : ℕ) → n < 2 ^ 64 → (key : List ℕ) (i start len : ℕ) → Last s (tables_in r.head) key (tables_in r.head).count i start len
-      → r.forms ≤ length (segments s start len) → OneOf n i start len (answer_of (own_for n) (counted s r.head Q key n))
-  fit_answers on n count key i start len w stored =
+  pub fit_answers : o.fit ≡ true → (n : ℕ) → n < 2 ^ 64 → (key : List ℕ) (h : Hit) → Last s (tables_in r.head) key (tables_in r.head).count h
+      → r.forms ≤ length (segments s h.start h.len) → OneOf n h (answer_of (own_for n) (counted s r.head Q key n))
+  fit_answers on n count key h w stored =
       let g = ((accepted_exactly o f s _ _ _).0 (was_accepted o f s loads number_0)).fitting on in
       let k : r.forms ≡ g.count = loads.forms_are ∙ ap count_by g.given in
-      let y : fit_of Q (nodes_in r.head) (root_in r.head) g.count ≡ fit.Yes = fresh_fits o f s loads g.count ∙ ap fitting (sym (ap (fits (tree_in (load o f s))) g.given) ∙ facts_fit (tree_in (load o f s)) g) in
-      let x = (demand_3_fits g.count (fits_of (fit_of Q (nodes_in r.head) (root_in r.head) g.count)) refl (ap (λ (z : Fit). (fits_of z).fits) y) n count).kept in
-      record { form = x.yields.form; value = x.yields.value; below = omega (arith, x.yields.below); among = omega (arith, x.yields.below); is = x.answers key i start len w (omega arith) }
+      let y : fit_of Q (nodes_in r.head) (root_in r.head) g.count ≡ Ok true = fresh_fits o f s loads g.count ∙ ap fitting (sym (ap (fits (tree_in (load o f s))) g.given) ∙ facts_fit (tree_in (load o f s)) g) in
+      let x = (demand_3_fits g.count (fits_of (fit_of Q (nodes_in r.head) (root_in r.head) g.count)) refl (ap (λ (z : Result Bool NoTree). (fits_of z).fits) y) n count).kept in
+      record { form = x.yields.form; value = x.yields.value; below = omega (arith, x.yields.below); among = omega (arith, x.yields.below); is = x.answers key h w (omega arith) }

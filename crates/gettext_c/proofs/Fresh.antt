@@ -7,6 +7,7 @@ use mathlib.Core.List.{List}
 use native.Mathlib.Omega.{arith}
 use lib.ListN.{length, get_or}
 use borrow.Author.Tests.{eq-eqb}
+use Rattle.std.specs.Prelude.{Option, Some, None, Result, Ok}
 use Rattle.text.proofs.Tests.{taken}
 use Rattle.refusal.specs.Numbers.{number_of, outcome_number}
 use Rattle.refusal.specs.declared.Error.{Error}
@@ -16,10 +17,7 @@ use Rattle.rules.specs.Range.{rate_tree, fits_range}
 use Rattle.rules.specs.Pool.{Pool, tree_of, is_tree}
 use Rattle.rules.specs.Pack.{packed_size}
 use Rattle.rules.specs.Answer.{form_of, range_of, fitting, resolved_of, rated_of, fit_of}
-use Rattle.rules.specs.declared.Value.{Value}
-use Rattle.rules.specs.declared.Value.TheVariants as value
-use Rattle.rules.specs.declared.Resolved.{Resolved}
-use Rattle.rules.specs.declared.Resolved.TheVariants as resolved
+use Rattle.rules.specs.declared.NoForm.{NoForm}
 use Rattle.reading_rule.proofs.Joined.{held_is_tree, held_tree, held_resolves, held_rates, held_fits}
 use Rattle.container_layout.specs.declared.Tables.{Tables}
 use Rattle.lookup_scan.specs.Keys.{last_with}
@@ -59,12 +57,12 @@ number_0_accepted (accepted t r n) e = refl
 number_0_accepted (refused x) e = absurd (never_0 x.error e)
 
 -- 11 is not the number of what follows from a value
-rule_reason : (s : List ℕ) (v : Value) (h : Hit) → number (by_rule s (form_of v) h) ≡ number_of error.BadRecord → ⊥
-rule_reason s (value.Is x) h e = let z = by_entry_0 s x h in omega (arith, sym z ∙ e)
-rule_reason s value.ZeroModulus h e = omega arith
+rule_reason : (s : List ℕ) (v : Option ℕ) (h : Option Hit) → number (by_rule s (form_of v) h) ≡ number_of error.BadRecord → ⊥
+rule_reason s (Some x) h e = let z = by_entry_0 s x h in omega (arith, sym z ∙ e)
+rule_reason s None h e = omega arith
 
 -- with the length right, the number is that of what follows from the rule and the hit
-long_number : (s : List ℕ) (t : Tables) (v : Resolved) (h : Hit) → length s ≡ t.length → number (plural s t v h) ≡ number (by_rule s v h)
+long_number : (s : List ℕ) (t : Tables) (v : Result ℕ NoForm) (h : Option Hit) → length s ≡ t.length → number (plural s t v h) ≡ number (by_rule s v h)
 unfolding plural
 long_number s t v h e = ap number (taken (by_rule s v h) reason.StaleLength (eq-eqb (length s) t.length e))
 
@@ -102,12 +100,12 @@ module _ (o : Options) (f s : List ℕ) {Q : Pool} {r : Loaded} (loads : Loads (
     pub fresh_never_11 : (key : List ℕ) → number (found s r.head key) ≡ number_of error.BadRecord → ⊥
     fresh_never_11 key e =
         let w = last_with s (host.tables_in r.head) key in
-        rule_reason s (value.Is 0) w (sym (long_number s (host.tables_in r.head) (resolved.Form 0) w fresh_length) ∙ e)
+        rule_reason s (Some 0) w (sym (long_number s (host.tables_in r.head) (Ok 0) w fresh_length) ∙ e)
 
     pub fresh_never_11_counted : (key : List ℕ) (n : ℕ) → number (counted s r.head Q key n) ≡ number_of error.BadRecord → ⊥
     fresh_never_11_counted key n e =
         let t = host.tables_in r.head in
         let w = last_with s t key in
         let v = form_of (eval_tree (tree_in (load o f s)) n) in
-        let z : number (counted s r.head Q key n) ≡ number (by_rule s v w) = ap (λ (x : Resolved). number (plural s t x w)) (fresh_resolves n) ∙ long_number s t v w fresh_length in
+        let z : number (counted s r.head Q key n) ≡ number (by_rule s v w) = ap (λ (x : Result ℕ NoForm). number (plural s t x w)) (fresh_resolves n) ∙ long_number s t v w fresh_length in
         rule_reason s (eval_tree (tree_in (load o f s)) n) w (sym z ∙ e)

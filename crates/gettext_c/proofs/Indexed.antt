@@ -7,17 +7,19 @@ use mathlib.Core.Path.{◌≡◌, refl, sym, ap, ◌∙◌}
 use mathlib.Core.List.{List}
 use native.Mathlib.Omega.{arith}
 use lib.ListN.{length}
+use Rattle.std.specs.Prelude.{Result, Ok, Err}
 use Rattle.refusal.specs.Numbers.{number_of}
 use Rattle.refusal.specs.declared.Error.TheVariants as error
 use Rattle.rules.specs.Pool.{Pool}
-use Rattle.rules.specs.declared.Resolved.{Resolved}
+use Rattle.rules.specs.declared.NoForm.{NoForm}
 use Rattle.container_layout.specs.Mo.{segments}
 use Rattle.lookup_scan.specs.Keys.{last_with}
+use Rattle.lookup_scan.specs.declared.Hit.{Hit}
 use Rattle.lookup_scan.proofs.Last.{Last}
 use Rattle.lookup_slots.specs.Used.{used}
 use Rattle.lookup_index.specs.Index.{sought_in, building, leaves, number}
-use Rattle.lookup_index.specs.declared.Building.{Building}
-use Rattle.lookup_index.specs.declared.Building.TheVariants as went
+use Rattle.lookup_index.specs.declared.Unbuilt.{Unbuilt}
+use Rattle.lookup_index.specs.declared.Unbuilt.TheVariants as unbuilt
 use Rattle.lookup_index.proofs.Answers.{built_exactly}
 use Rattle.lookup.specs.Lookup.{plural, plural_in}
 use Rattle.lookup.specs.declared.Reason.{Reason}
@@ -65,24 +67,24 @@ refused_indexed own (reason.Answered i form start len) n = absurd (n refl)
 pub refused_index : {s h lent slots : List ℕ} {n : ℕ} → Indexes s h lent slots n → (n ≡ 0 → ⊥) → slots ≡ lent
 refused_index {s} {h} {lent} {slots} {n} w z = by_went (building s (tables_in h) (length lent)) w.slots_are w.number_is
   where
-    by_went : (b : Building) → slots ≡ leaves s (tables_in h) lent b → n ≡ number b → slots ≡ lent
-    by_went went.Built e f = absurd (z f)
-    by_went went.StaleLength e f = e
-    by_went went.TooFew e f = e
+    by_went : (b : Result Unit Unbuilt) → slots ≡ leaves s (tables_in h) lent b → n ≡ number b → slots ≡ lent
+    by_went (Ok tt) e f = absurd (z f)
+    by_went (Err unbuilt.StaleLength) e f = e
+    by_went (Err unbuilt.TooFewSlots) e f = e
 
-went_0 : (b : Building) → number b ≡ 0 → b ≡ went.Built
-went_0 went.Built e = refl
-went_0 went.StaleLength e = absurd (omega arith)
-went_0 went.TooFew e = absurd (omega arith)
+went_0 : (b : Result Unit Unbuilt) → number b ≡ 0 → b ≡ Ok tt
+went_0 (Ok tt) e = refl
+went_0 (Err unbuilt.StaleLength) e = absurd (omega arith)
+went_0 (Err unbuilt.TooFewSlots) e = absurd (omega arith)
 
 -- The slots that were built: every lookup answers as the scan, v being the rule's value, form 0 without a count.
 module _ {s h lent slots : List ℕ} {n : ℕ} (w : Indexes s h lent slots n) (zero : n ≡ 0) where
-  is_built : building s (tables_in h) (length lent) ≡ went.Built
+  is_built : building s (tables_in h) (length lent) ≡ Ok tt
   is_built = went_0 _ (sym w.number_is ∙ zero)
 
-  pub answers_as_scan : (v : Resolved) (key : List ℕ) → plural_in s (tables_in h) v (sought_in s (tables_in h) slots key) ≡ plural s (tables_in h) v (last_with s (tables_in h) key)
+  pub answers_as_scan : (v : Result ℕ NoForm) (key : List ℕ) → plural_in s (tables_in h) v (sought_in s (tables_in h) slots key) ≡ plural s (tables_in h) v (last_with s (tables_in h) key)
   answers_as_scan v key =
-      let e : slots ≡ leaves s (tables_in h) lent went.Built = w.slots_are ∙ ap (leaves s (tables_in h) lent) is_built in
+      let e : slots ≡ leaves s (tables_in h) lent (Ok tt) = w.slots_are ∙ ap (leaves s (tables_in h) lent) is_built in
       ap (λ (x : List ℕ). plural_in s (tables_in h) v (sought_in s (tables_in h) x key)) e ∙ indexed_as_scan s (tables_in h) v lent key is_built
 
 -- 3. An accepted load, the record unaltered, and an index built from it and these bytes.
@@ -94,15 +96,15 @@ module _ (o : Options) (f s : List ℕ) {Q : Pool} {r : Loaded} (loads : Loads (
   module _ {lent slots : List ℕ} {m : ℕ} (w : Indexes s r.head lent slots m) (zero : m ≡ 0) where
     pub record KeptIn (lo hi k n : ℕ) : Type 0 where
       pub yields : Yields (tree_in (load o f s)) lo hi k n
-      pub answers : (key : List ℕ) (i start len : ℕ) → Last s (tables_in r.head) key (tables_in r.head).count i start len → k ≤ length (segments s start len)
-          → IsSegment s i start len yields.form (answer_of (own_for n) (counted_in s r.head slots Q key n))
+      pub answers : (key : List ℕ) (h : Hit) → Last s (tables_in r.head) key (tables_in r.head).count h → k ≤ length (segments s h.start h.len)
+          → IsSegment s h yields.form (answer_of (own_for n) (counted_in s r.head slots Q key n))
 
     kept_in : {lo hi k n : ℕ} → Kept o f s loads number_0 lo hi k n → KeptIn lo hi k n
     kept_in {n = n} q = record {
       yields = q.yields;
       answers =
-          λ key i start len l g.
-          rw (answers_as_scan w zero (resolved_of Q (nodes_in r.head) (root_in r.head) n) key) (q.answers key i start len l g);
+          λ key h l g.
+          rw (answers_as_scan w zero (resolved_of Q (nodes_in r.head) (root_in r.head) n) key) (q.answers key h l g);
     }
 
     pub indexed_demand_3 : (q : Rating) → q ≡ rating_of (range o f s loads number_0) → q.rated ≡ 1 → (k : ℕ) → q.highest < k → (n : ℕ) → n < 2 ^ 64

@@ -8,14 +8,14 @@ use mathlib.Core.Bool.{true}
 use mathlib.Core.List.{List, [], ◌∷◌}
 use native.Mathlib.Omega.{arith}
 use lib.ListN.{length, take, drop, get_or}
+use Rattle.std.specs.Prelude.{Result, Ok}
 use Rattle.text_utf8.specs.Utf8.{utf8}
 use Rattle.text_utf8.proofs.Texts.{empty_right}
 use Rattle.text.specs.Cut.{every}
 use Rattle.text.proofs.Tests.{and_left, and_right}
 use Rattle.rules.specs.Pool.{Pool}
 use Rattle.rules.specs.Answer.{resolved_of}
-use Rattle.rules.specs.declared.Resolved.{Resolved}
-use Rattle.rules.specs.declared.Resolved.TheVariants as resolved
+use Rattle.rules.specs.declared.NoForm.{NoForm}
 use Rattle.container_layout.specs.declared.Tables.{Tables}
 use Rattle.lookup_scan.specs.Keys.{last_with}
 use Rattle.lookup_index.specs.Index.{sought_in}
@@ -63,11 +63,11 @@ one_right (p ∷ ps) zero e = and_left (utf8 p) (every utf8 ps) e
 one_right (p ∷ ps) (suc k) e = one_right ps k (and_right (utf8 p) (every utf8 ps) e)
 
 -- a is the answer of a lookup by a search that finds only entries with the key; the rule's value is v, form 0 without a count
-record Founded (s h key : List ℕ) (v : Resolved) (a : Reason) : Type 0 where
+record Founded (s h key : List ℕ) (v : Result ℕ NoForm) (a : Reason) : Type 0 where
   told : (i form at size : ℕ) → a ≡ reason.Answered i form at size → Found s (tables_in h) key v i form at size
 
 -- any record
-module _ (s h key : List ℕ) (v : Resolved) (a : Reason) (sound : Founded s h key v a) {own : ℕ} (w : Own own) where
+module _ (s h key : List ℕ) (v : Result ℕ NoForm) (a : Reason) (sound : Founded s h key v a) {own : ℕ} (w : Own own) where
   by_search : (e : (answer_of own a).which ≡ 0) → Found s (tables_in h) key v (segment_0 w a e).i (segment_0 w a e).form (answer_of own a).start (answer_of own a).len
   by_search e = sound.told _ _ _ _ (segment_0 w a e).is
 
@@ -78,20 +78,20 @@ module _ (s h key : List ℕ) (v : Resolved) (a : Reason) (sound : Founded s h k
   none z e = omega (arith, (by_search e).entered.below)
 
 -- by the scan, and by any slots
-abbrev scanned : List ℕ → List ℕ → List ℕ → Resolved → Reason
+abbrev scanned : List ℕ → List ℕ → List ℕ → Result ℕ NoForm → Reason
 scanned s h key v = plural s (tables_in h) v (last_with s (tables_in h) key)
 
-abbrev pub in_slots : List ℕ → List ℕ → List ℕ → List ℕ → Resolved → Reason
+abbrev pub in_slots : List ℕ → List ℕ → List ℕ → List ℕ → Result ℕ NoForm → Reason
 in_slots s h slots key v = plural_in s (tables_in h) v (sought_in s (tables_in h) slots key)
 
-by_scan : (s h key : List ℕ) (v : Resolved) → Founded s h key v (scanned s h key v)
+by_scan : (s h key : List ℕ) (v : Result ℕ NoForm) → Founded s h key v (scanned s h key v)
 by_scan s h key v = record { told = λ i form at size e. last_found s (tables_in h) key v e }
 
-by_slots_lem : (s h slots key : List ℕ) (v : Resolved) → Founded s h key v (in_slots s h slots key v)
+by_slots_lem : (s h slots key : List ℕ) (v : Result ℕ NoForm) → Founded s h key v (in_slots s h slots key v)
 by_slots_lem s h slots key v = record { told = λ i form at size e. any_slots s (tables_in h) v slots key e }
 
 pub answer_inside : (s h key : List ℕ) → (answer_of 1 (found s h key)).which ≡ 0 → (answer_of 1 (found s h key)).start + (answer_of 1 (found s h key)).len ≤ length s
-answer_inside s h key e = inside s h key (resolved.Form 0) (found s h key) (by_scan s h key (resolved.Form 0)) id e
+answer_inside s h key e = inside s h key (Ok 0) (found s h key) (by_scan s h key (Ok 0)) id e
 
 pub plural_inside : (s h : List ℕ) (P : Pool) (key : List ℕ) (n : ℕ) {own : ℕ} → Own own → (answer_of own (counted s h P key n)).which ≡ 0
     → (answer_of own (counted s h P key n)).start + (answer_of own (counted s h P key n)).len ≤ length s
@@ -99,7 +99,7 @@ plural_inside s h P key n w e =
     let v = resolved_of P (nodes_in h) (root_in h) n in
     inside s h key v (scanned s h key v) (by_scan s h key v) w e
 
-pub slots_inside : (s h slots key : List ℕ) (v : Resolved) {own : ℕ} → Own own → (answer_of own (in_slots s h slots key v)).which ≡ 0
+pub slots_inside : (s h slots key : List ℕ) (v : Result ℕ NoForm) {own : ℕ} → Own own → (answer_of own (in_slots s h slots key v)).which ≡ 0
     → (answer_of own (in_slots s h slots key v)).start + (answer_of own (in_slots s h slots key v)).len ≤ length s
 slots_inside s h slots key v w e = inside s h key v (in_slots s h slots key v) (by_slots_lem s h slots key v) w e
 
@@ -109,19 +109,19 @@ module _ (s : List ℕ) {Q : Pool} {r : Loaded} (empty : IsEmpty Q r) (key : Lis
   no_entry = ap (λ (t : Tables). t.count) empty.tables_are
 
   pub empty_absent : (answer_of 1 (found s r.head key)).which ≡ 0 → ⊥
-  empty_absent e = none s r.head key (resolved.Form 0) (found s r.head key) (by_scan s r.head key (resolved.Form 0)) id no_entry e
+  empty_absent e = none s r.head key (Ok 0) (found s r.head key) (by_scan s r.head key (Ok 0)) id no_entry e
 
   pub empty_plural : (P : Pool) (n : ℕ) {own : ℕ} → Own own → (answer_of own (counted s r.head P key n)).which ≡ 0 → ⊥
   empty_plural P n w e =
       let v = resolved_of P (nodes_in r.head) (root_in r.head) n in
       none s r.head key v (scanned s r.head key v) (by_scan s r.head key v) w no_entry e
 
-  pub slots_absent : (slots : List ℕ) (v : Resolved) {own : ℕ} → Own own → (answer_of own (in_slots s r.head slots key v)).which ≡ 0 → ⊥
+  pub slots_absent : (slots : List ℕ) (v : Result ℕ NoForm) {own : ℕ} → Own own → (answer_of own (in_slots s r.head slots key v)).which ≡ 0 → ⊥
   slots_absent slots v w e = none s r.head key v (in_slots s r.head slots key v) (by_slots_lem s r.head slots key v) w no_entry e
 
 -- the record of this very file
 module _ (o : Options) (f s : List ℕ) {Q : Pool} {r : Loaded} (loads : Loads (load o f s) Q r) (number_0 : r.number ≡ 0) (key : List ℕ) where
-  right : {own : ℕ} (v : Resolved) (a : Reason) → Founded s r.head key v a → Own own → (answer_of own a).which ≡ 0 → utf8 (take (answer_of own a).len (drop (answer_of own a).start s)) ≡ true
+  right : {own : ℕ} (v : Result ℕ NoForm) (a : Reason) → Founded s r.head key v a → Own own → (answer_of own a).which ≡ 0 → utf8 (take (answer_of own a).len (drop (answer_of own a).start s)) ≡ true
   right v a sound w e =
       let x = by_search s r.head key v a sound w e in
       let i = segment_0 w a e in
@@ -130,7 +130,7 @@ module _ (o : Options) (f s : List ℕ) {Q : Pool} {r : Loaded} (loads : Loads (
 
   pub answer_right : (answer_of 1 (found s r.head key)).which ≡ 0
       → utf8 (take (answer_of 1 (found s r.head key)).len (drop (answer_of 1 (found s r.head key)).start s)) ≡ true
-  answer_right e = right (resolved.Form 0) (found s r.head key) (by_scan s r.head key (resolved.Form 0)) id e
+  answer_right e = right (Ok 0) (found s r.head key) (by_scan s r.head key (Ok 0)) id e
 
   pub plural_right : (P : Pool) (n : ℕ) {own : ℕ} → Own own → (answer_of own (counted s r.head P key n)).which ≡ 0
       → utf8 (take (answer_of own (counted s r.head P key n)).len (drop (answer_of own (counted s r.head P key n)).start s)) ≡ true
@@ -138,6 +138,6 @@ module _ (o : Options) (f s : List ℕ) {Q : Pool} {r : Loaded} (loads : Loads (
       let v = resolved_of P (nodes_in r.head) (root_in r.head) n in
       right v (scanned s r.head key v) (by_scan s r.head key v) w e
 
-  pub slots_right : (slots : List ℕ) (v : Resolved) {own : ℕ} → Own own → (answer_of own (in_slots s r.head slots key v)).which ≡ 0
+  pub slots_right : (slots : List ℕ) (v : Result ℕ NoForm) {own : ℕ} → Own own → (answer_of own (in_slots s r.head slots key v)).which ≡ 0
       → utf8 (take (answer_of own (in_slots s r.head slots key v)).len (drop (answer_of own (in_slots s r.head slots key v)).start s)) ≡ true
   slots_right slots v w e = right v (in_slots s r.head slots key v) (by_slots_lem s r.head slots key v) w e

@@ -1,6 +1,7 @@
 // The port for a host in C or Rust: the file is lent, numbers come back, and the host takes the text that they
 // name from its own memory. A record is what the host keeps of a load: its head, seven numbers, and the three arrays of its rule's nodes,
-// which a load writes and every other function only reads. `gettext_c_c` exports each as a static library.
+// which a load writes and every other function only reads. `gettext_c_c` exports each as a static library, so the signatures are those of C: a
+// flag is a number, and the arrays and the context stand beside one another. `host` makes options, a rule and a key of them.
 #![tactic(auto)]
 
 ghost use Rattle.std.specs.Prelude.{◌≡◌};
@@ -19,8 +20,7 @@ ghost use Rattle.host.specs.Explained.{explained_of};
 ghost use Rattle.gettext_c.specs.Why.{why_counted};
 ghost use Rattle.gettext_c.specs.Record.{Loads, IsEmpty, Indexes, found, counted, found_in, counted_in, Writes};
 
-use host::{Answer, Explained, Fits, Form, Loaded, Rating, Written, tables_in};
-use refusal::Outcome;
+use host::{Answer, Explained, Fits, Form, Loaded, Rating, Written, key_in, rule_in, tables_in};
 
 // The empty catalog.
 pub fn gettext_c_empty(
@@ -30,7 +30,7 @@ pub fn gettext_c_empty(
 ) -> Loaded
     ensures { IsEmpty (pool codes.new places.new values.new) result }
 {
-    let loading = container::empty_into(Outcome::Loaded, codes, places, values);
+    let loading = container::empty_into(Ok(()), codes, places, values);
     host::loaded_of(loading)
 }
 
@@ -66,7 +66,7 @@ pub fn gettext_c_gettext<'a>(
 ) -> Answer
     ensures { result ≡ answer_of 1 (found file.now head.now (key_of (is_set given) context.now id.now)) }
 {
-    let reason = lookup::find(file, tables_in(head), given != 0, context, id);
+    let reason = lookup::find(file, tables_in(head), key_in(given, context, id));
     host::answer_of(reason, 1)
 }
 
@@ -85,21 +85,9 @@ pub fn gettext_c_ngettext<'a>(
     ensures { result ≡ answer_of (own_for n) (counted file.now head.now
         (pool codes.now places.now values.now) (key_of (is_set given) context.now id.now) n) }
 {
-    let nodes = head[5];
-    let root = head[6];
-    let reason = lookup::nfind(
-        file,
-        tables_in(head),
-        codes,
-        places,
-        values,
-        nodes,
-        root,
-        given != 0, // whether the key has a context
-        context,
-        id,
-        n,
-    );
+    let rule = rule_in(head, codes, places, values);
+    let key = key_in(given, context, id);
+    let reason = lookup::nfind(file, tables_in(head), rule, key, n);
     host::answer_of(reason, host::own_for(n))
 }
 
@@ -130,7 +118,7 @@ pub fn gettext_c_gettext_indexed<'a>(
 ) -> Answer
     ensures { result ≡ answer_of 1 (found_in file.now head.now slots.now (key_of (is_set given) context.now id.now)) }
 {
-    let reason = lookup::find_indexed(file, tables_in(head), slots, given != 0, context, id);
+    let reason = lookup::find_indexed(file, tables_in(head), slots, key_in(given, context, id));
     host::answer_of(reason, 1)
 }
 
@@ -149,22 +137,9 @@ pub fn gettext_c_ngettext_indexed<'a>(
     ensures { result ≡ answer_of (own_for n) (counted_in file.now head.now slots.now
         (pool codes.now places.now values.now) (key_of (is_set given) context.now id.now) n) }
 {
-    let nodes = head[5];
-    let root = head[6];
-    let reason = lookup::nfind_indexed(
-        file,
-        tables_in(head),
-        slots,
-        codes,
-        places,
-        values,
-        nodes,
-        root,
-        given != 0,
-        context,
-        id,
-        n,
-    );
+    let rule = rule_in(head, codes, places, values);
+    let key = key_in(given, context, id);
+    let reason = lookup::nfind_indexed(file, tables_in(head), slots, rule, key, n);
     host::answer_of(reason, host::own_for(n))
 }
 
@@ -178,9 +153,8 @@ pub fn gettext_c_rating<'a>(
     ensures { result ≡ rating_of (rated_of (pool codes.now places.now values.now)
         (nodes_in head.now) (root_in head.now)) }
 {
-    let nodes = head[5];
-    let root = head[6];
-    host::rating_of(rules_range::rating_of(codes, places, values, nodes, root))
+    let rule = rule_in(head, codes, places, values);
+    host::rating_of(rules_range::rating_of(rule))
 }
 
 // Whether a record's rule is rated and names forms below k alone.
@@ -194,9 +168,8 @@ pub fn gettext_c_fits<'a>(
     ensures { result ≡ fits_of (fit_of (pool codes.now places.now values.now)
         (nodes_in head.now) (root_in head.now) k) }
 {
-    let nodes = head[5];
-    let root = head[6];
-    host::fits_of(rules_range::fits(codes, places, values, nodes, root, k))
+    let rule = rule_in(head, codes, places, values);
+    host::fits_of(rules_range::fits(rule, k))
 }
 
 // The form that a record's rule names for a count.
@@ -210,9 +183,8 @@ pub fn gettext_c_resolve<'a>(
     ensures { result ≡ value_of (resolved_of (pool codes.now places.now values.now)
         (nodes_in head.now) (root_in head.now) n) }
 {
-    let nodes = head[5];
-    let root = head[6];
-    host::form_of(rules_value::resolve(codes, places, values, nodes, root, n))
+    let rule = rule_in(head, codes, places, values);
+    host::form_of(rules_value::resolve(rule, n))
 }
 
 // Writes the text of a record's rule, with brackets round every operator, into the buffer. What it does not need of the buffer stays.
@@ -225,9 +197,8 @@ pub fn gettext_c_text<'a>(
 ) -> Written
     ensures { Writes (pool codes.now places.now values.now) head.now buffer.old buffer.new result }
 {
-    let nodes = head[5];
-    let root = head[6];
-    let writing = rules_text::write(codes, places, values, nodes, root, buffer);
+    let rule = rule_in(head, codes, places, values);
+    let writing = rules_text::write(rule, buffer);
     host::written_of(writing)
 }
 
@@ -247,9 +218,8 @@ pub fn gettext_c_span<'a>(
     ensures figures { figures.new ≡ figures_of (pool codes.now places.now values.now)
         (nodes_in head.now) (root_in head.now) a b }
 {
-    let nodes = head[5];
-    let root = head[6];
-    let counting = rules_span::tally(codes, places, values, nodes, root, a, b, figures);
+    let rule = rule_in(head, codes, places, values);
+    let counting = rules_span::tally(rule, a, b, figures);
     rules_span::number_of(counting)
 }
 
@@ -282,20 +252,8 @@ pub fn gettext_c_why_ngettext<'a>(
     ensures { result ≡ explained_of (own_for n) (why_counted file.now head.now
         (pool codes.now places.now values.now) (key_of (is_set given) context.now id.now) n) }
 {
-    let nodes = head[5];
-    let root = head[6];
-    let why = lookup_why::explain(
-        file,
-        tables_in(head),
-        codes,
-        places,
-        values,
-        nodes,
-        root,
-        given != 0,
-        context,
-        id,
-        n,
-    );
+    let rule = rule_in(head, codes, places, values);
+    let key = key_in(given, context, id);
+    let why = lookup_why::explain(file, tables_in(head), rule, key, n);
     host::explained_of(why, host::own_for(n))
 }

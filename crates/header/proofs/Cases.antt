@@ -3,7 +3,7 @@ use Prim.Native.Nat.{ℕ}
 use mathlib.Core.Path.{◌≡◌, refl}
 use mathlib.Core.Bool.{true, false}
 use mathlib.Core.List.{List, [], ◌∷◌, ◌++◌, map}
-use mathlib.Core.Option.{none, some}
+use Rattle.std.specs.Prelude.{Some, None}
 use lib.ListN.{take, drop}
 use Rattle.text.specs.Bytes.{bytes, begins, same, front, first}
 use Rattle.text.specs.Cut.{cut, every}
@@ -11,7 +11,6 @@ use Rattle.text_trim.specs.Trim.{Chars, white_space, trim, trim_start, trim_end,
 use Rattle.header_fields.specs.Fields.{named, last_of}
 use Rattle.text_digits.specs.Digits.{digits_from}
 use Rattle.header_forms.specs.Forms.{count_in, last_count, form_count}
-use Rattle.header_forms.specs.declared.Forms.TheVariants.{Given, Absent}
 use Rattle.header.specs.Header.{charset, plural, metadata, utf8_label}
 use Rattle.header.proofs.Depends.{Texts, malformed, fields, texts}
 
@@ -29,13 +28,13 @@ abbrev row : List ℕ → Texts → Row
 row h t = record { header = h; gives = t }
 
 abbrev rule : List ℕ → Texts
-rule s = fields none (some s) Absent
+rule s = fields None (Some s) None
 
 abbrev counted : List ℕ → ℕ → Texts
-counted s n = fields none (some s) (Given n)
+counted s n = fields None (Some s) (Some n)
 
 abbrev neither : Texts
-neither = fields none none Absent
+neither = fields None None None
 
 abbrev pub rows : List Row
 rows =
@@ -44,21 +43,21 @@ rows =
     ∷ row (bytes "Plural-Forms:" ++ (a0 ++ bytes "plural=n")) (rule (bytes "n"))
     ∷ row (bytes "Plural-Forms:plural=" ++ (a0 ++ (bytes "n" ++ (a0 ++ bytes ";")))) (rule (bytes "n"))
     -- inside Plural-Forms a name is trimmed of six bytes only: no rule has the name
-    ∷ row (bytes "Plural-Forms:nplurals=2;" ++ (a0 ++ bytes "plural=n")) (fields none none (Given 2))
+    ∷ row (bytes "Plural-Forms:nplurals=2;" ++ (a0 ++ bytes "plural=n")) (fields None None (Some 2))
     ∷ row (bytes "Plural-Forms:plural" ++ (a0 ++ bytes "=n")) neither
     ∷ row (bytes "Plural-Forms:nplurals=2;" ++ (11 ∷ bytes "plural" ++ (12 ∷ bytes "=n"))) (counted (bytes "n") 2)
     -- a count is one of the last Plural-Forms only; the trim of its value frees a count at its end
     ∷ row (bytes "Plural-Forms:nplurals=2;plural=n\nPlural-Forms:nplurals=3;plural=0") (counted (bytes "0") 3)
     ∷ row (bytes "Plural-Forms:nplurals=2\nPlural-Forms:plural=0") (rule (bytes "0"))
-    ∷ row (bytes "Plural-Forms:nplurals=2\nA:nplurals=3") (fields none none (Given 2))
+    ∷ row (bytes "Plural-Forms:nplurals=2\nA:nplurals=3") (fields None None (Some 2))
     ∷ row (bytes "Plural-Forms:plural=n;nplurals=2" ++ a0) (counted (bytes "n") 2)
-    ∷ row (bytes "Plural-Forms:" ++ (a0 ++ bytes "nplurals=2")) (fields none none (Given 2))
+    ∷ row (bytes "Plural-Forms:" ++ (a0 ++ bytes "nplurals=2")) (fields None None (Some 2))
     ∷ row (bytes "Plural-Forms:nplurals=" ++ (a0 ++ bytes "2;plural=n")) (rule (bytes "n"))
     ∷ row (bytes "plural-forms:nplurals=2") neither
     -- a label is trimmed as its value's end only
-    ∷ row (bytes "Content-Type:charset=utf-8" ++ a0) (fields (some (bytes "utf-8")) none Absent)
-    ∷ row (bytes "Content-Type:charset=" ++ (a0 ++ bytes "utf-8")) (fields (some (a0 ++ bytes "utf-8")) none Absent)
-    ∷ row (bytes "Content-Type:charset=utf-8" ++ (a0 ++ bytes "charset=x")) (fields (some (bytes "utf-8" ++ a0)) none Absent)
+    ∷ row (bytes "Content-Type:charset=utf-8" ++ a0) (fields (Some (bytes "utf-8")) None None)
+    ∷ row (bytes "Content-Type:charset=" ++ (a0 ++ bytes "utf-8")) (fields (Some (a0 ++ bytes "utf-8")) None None)
+    ∷ row (bytes "Content-Type:charset=utf-8" ++ (a0 ++ bytes "charset=x")) (fields (Some (bytes "utf-8" ++ a0)) None None)
     -- a line of such space is not empty; 85, 2028 and 2029 end no line
     ∷ row a0 malformed
     ∷ row (bytes "A:b" ++ (encode 0x85 ++ bytes "Plural-Forms:plural=n")) neither
@@ -84,7 +83,7 @@ around e =
 abbrev others : Chars
 others = take 1 white_space ++ drop 2 white_space
 
-pub each_read : map (λ e. answer (around e)) others ≡ map (λ e. fields (some (bytes "utf-8")) (some (bytes "n%2")) Absent) others
+pub each_read : map (λ e. answer (around e)) others ≡ map (λ e. fields (Some (bytes "utf-8")) (Some (bytes "n%2")) None) others
 unfolding metadata charset plural form_count last_count count_in digits_from named last_of cut every first front same trim trim_start trim_end edge_after lead encode begins
 each_read = refl
 

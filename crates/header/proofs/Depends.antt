@@ -4,7 +4,7 @@ use Prim.Native.Nat.{ℕ, ◌+◌, ◌≤◌}
 use mathlib.Core.Path.{◌≡◌, refl, sym, ap, ◌∙◌}
 use mathlib.Core.Bool.{Bool, true, false}
 use mathlib.Core.List.{List}
-use mathlib.Core.Option.{Option, none, some}
+use Rattle.std.specs.Prelude.{Option, Some, None}
 use native.Mathlib.Omega.{arith}
 use lib.ListN.{length, take, drop, length-take}
 use Rattle.text.proofs.Parts.{part_of_part}
@@ -13,59 +13,54 @@ use Rattle.text.specs.Cut.{every}
 use Rattle.header_fields.specs.Fields.{shift, lines, line_ok}
 use Rattle.header_fields.specs.Promise.{end_of}
 use Rattle.text.specs.declared.Stretch.{Stretch}
-use Rattle.text.specs.declared.Stretch.TheVariants.{At, Absent}
 use Rattle.header_forms.specs.Forms.{form_count, forms_at}
-use Rattle.header_forms.specs.declared.Forms.{Forms}
-use Rattle.header_forms.specs.declared.Forms.TheVariants as forms
 use Rattle.header.specs.Header.{within, field, charset, plural, metadata}
-use Rattle.header.specs.Private.{part_of}
-use Rattle.header.specs.declared.Sought.{Sought}
-use Rattle.header.specs.declared.Sought.TheVariants.{Charset, Plural}
 use Rattle.header.specs.declared.Metadata.{Metadata}
-use Rattle.header.specs.declared.Metadata.TheVariants.{Malformed, Fields}
-use Rattle.header.proofs.Parts.{part_end, field_end}
+use Rattle.header.proofs.Parts.{charset_end, plural_end, field_end}
 
 -- the text at a place
-abbrev pub text_at : List ℕ → Stretch → Option (List ℕ)
-text_at s (At start len) = some (take len (drop start s))
-text_at s Absent = none
+abbrev pub text_at : List ℕ → Option Stretch → Option (List ℕ)
+text_at s (Some p) = Some (take p.len (drop p.start s))
+text_at s None = None
 
 -- a header's answer, as texts
 pub data Texts : Type 0 where
   malformed : Texts
-  fields : Option (List ℕ) → Option (List ℕ) → Forms → Texts
+  fields : Option (List ℕ) → Option (List ℕ) → Option ℕ → Texts
 
-abbrev pub texts : List ℕ → Metadata → Texts
-texts h Malformed = malformed
-texts h (Fields label rule n) = fields (text_at h label) (text_at h rule) n
+abbrev pub texts : List ℕ → Option Metadata → Texts
+texts h None = malformed
+texts h (Some m) = fields (text_at h m.charset) (text_at h m.rule) m.forms
 
-inside : (s : List ℕ) (start len : ℕ) (p : Stretch) → start + len ≤ length s → end_of p ≤ len → text_at s (shift start p) ≡ text_at (take len (drop start s)) p
-inside s start len (At a n) h k = ap some (part_of_part s start len a n h k)
-inside s start len Absent h k = refl
+inside : (s : List ℕ) (start len : ℕ) (p : Option Stretch) → start + len ≤ length s → end_of p ≤ len → text_at s (shift start p) ≡ text_at (take len (drop start s)) p
+inside s start len (Some p) h k = ap Some (part_of_part s start len p.start p.len h k)
+inside s start len None h k = refl
 
 -- what is sought in the value v, as a text
-pub sought_in : Sought → Option (List ℕ) → Option (List ℕ)
-sought_in k none = none
-sought_in k (some v) = text_at v (part_of k v)
+pub sought_in : (List ℕ → Option Stretch) → Option (List ℕ) → Option (List ℕ)
+sought_in f None = None
+sought_in f (Some v) = text_at v (f v)
 
-sought_text : (k : Sought) (h : List ℕ) (p : Stretch) → end_of p ≤ length h → text_at h (within h p (part_of k)) ≡ sought_in k (text_at h p)
+sought_text : (f : List ℕ → Option Stretch) → ((v : List ℕ) → end_of (f v) ≤ length v) → (h : List ℕ) (p : Option Stretch) → end_of p ≤ length h
+    → text_at h (within h p f) ≡ sought_in f (text_at h p)
 unfolding sought_in
-sought_text k h (At start len) l = inside h start len (part_of k (take len (drop start h))) l (omega (arith, part_end k (take len (drop start h)), length-take len (drop start h)))
-sought_text k h Absent l = refl
+sought_text f g h (Some p) l =
+    inside h p.start p.len (f (take p.len (drop p.start h))) l (omega (arith, g (take p.len (drop p.start h)), length-take p.len (drop p.start h)))
+sought_text f g h None l = refl
 
 -- the count in the value v
-pub forms_in : Option (List ℕ) → Forms
-forms_in none = forms.Absent
-forms_in (some v) = form_count v
+pub forms_in : Option (List ℕ) → Option ℕ
+forms_in None = None
+forms_in (Some v) = form_count v
 
-forms_text : (h : List ℕ) (p : Stretch) → forms_at h p ≡ forms_in (text_at h p)
+forms_text : (h : List ℕ) (p : Option Stretch) → forms_at h p ≡ forms_in (text_at h p)
 unfolding forms_in
-forms_text h (At start len) = refl
-forms_text h Absent = refl
+forms_text h (Some p) = refl
+forms_text h None = refl
 
 -- the answer, by those three
 pub answer : Bool → Option (List ℕ) → Option (List ℕ) → Texts
-answer true content plurals = fields (sought_in Charset content) (sought_in Plural plurals) (forms_in plurals)
+answer true content plurals = fields (sought_in charset content) (sought_in plural plurals) (forms_in plurals)
 answer false content plurals = malformed
 
 abbrev pub value_of : List ℕ → List ℕ → Option (List ℕ)
@@ -77,15 +72,16 @@ answer_is h = go (every line_ok (lines h))
   where
     go : (b : Bool) → texts h (elim b [
       | true ↦
-          Fields
-          (within h (field (bytes "Content-Type") h) charset)
-          (within h (field (bytes "Plural-Forms") h) plural)
-          (forms_at h (field (bytes "Plural-Forms") h))
-      | false ↦ Malformed
+          Some (record {
+            charset = within h (field (bytes "Content-Type") h) charset;
+            rule = within h (field (bytes "Plural-Forms") h) plural;
+            forms = forms_at h (field (bytes "Plural-Forms") h);
+          })
+      | false ↦ None
     ]) ≡ answer b (value_of (bytes "Content-Type") h) (value_of (bytes "Plural-Forms") h)
     go true = rw (
-      sought_text Charset h (field (bytes "Content-Type") h) (field_end (bytes "Content-Type") h),
-      sought_text Plural h (field (bytes "Plural-Forms") h) (field_end (bytes "Plural-Forms") h),
+      sought_text charset charset_end h (field (bytes "Content-Type") h) (field_end (bytes "Content-Type") h),
+      sought_text plural plural_end h (field (bytes "Plural-Forms") h) (field_end (bytes "Plural-Forms") h),
       forms_text h (field (bytes "Plural-Forms") h),
     )
     go false = refl

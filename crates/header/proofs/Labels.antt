@@ -1,35 +1,40 @@
 -- The label in a Content-Type, as the code finds it. Assumes nothing.
-use Prim.Native.Nat.{ℕ, ◌+◌, ◌-◌}
-use mathlib.Core.Path.{◌≡◌, sym, ap, ◌∙◌}
+use Prim.Native.Nat.{ℕ, ◌+◌, ◌-◌, ◌≤◌}
+use mathlib.Core.Path.{◌≡◌, refl, ap}
 use mathlib.Core.Bool.{Bool, true, false}
 use mathlib.Core.List.{List, map}
-use lib.ListN.{length, take, drop, length-drop}
+use lib.ListN.{length, take, drop}
 use Rattle.text_trim.specs.Trim.{label, trim}
 use Rattle.text.specs.Bytes.{bytes, first, same, small}
-use Rattle.text.specs.declared.Found.{Found}
-use Rattle.text.specs.declared.Found.TheVariants as found
+use Rattle.std.specs.Prelude.{Option, Some, None}
+use Rattle.std.specs.Option.{unwrap_or}
 use Rattle.text.proofs.Walk.{part_from}
-use Rattle.text.specs.declared.Stretch.TheVariants.{At, Absent}
+use Rattle.text.proofs.Sought.{first_inside}
 use Rattle.header.specs.Header.{up_to, charset, label_is, utf8_label}
 
 abbrev pub pattern : List ℕ
 pattern = bytes "charset="
 
 module _ (v : List ℕ) where
-  pub no_label : first pattern v ≡ found.Nowhere → Absent ≡ charset v
+  pub no_label : first pattern v ≡ None → None ≡ charset v
   unfolding charset
   no_label e = rw e
 
-  module _ (i : ℕ) (e : first pattern v ≡ found.At i) where
-    rest : (f : Found) → first pattern (take (length v - (i + 8)) (drop (i + 8) v)) ≡ f → At (i + 8) (up_to f (length (drop (i + 8) v))) ≡ charset v
-    unfolding charset
-    rest f h = rw (e, ← part_from v (i + 8), h)
+  pub label_found : (i : ℕ) → first pattern v ≡ Some i → {f : Option ℕ} {n : ℕ} → f ≡ first pattern (take (length v - (i + 8)) (drop (i + 8) v))
+      → n ≡ unwrap_or f (length (take (length v - (i + 8)) (drop (i + 8) v))) → Some (record { start = i + 8; len = n }) ≡ charset v
+  unfolding charset
+  label_found i e {f} {n} g h =
+      rw (e, ← part_from v (i + 8), ← g, h) (ap (λ (n : ℕ). Some (record { start = i + 8; len = n })) (go f (length (take (length v - (i + 8)) (drop (i + 8) v)))))
+    where
+      go : (f : Option ℕ) (n : ℕ) → unwrap_or f n ≡ up_to f n
+      go (Some j) n = refl
+      go None n = refl
 
-    pub to_the_next : {j : ℕ} → first pattern (take (length v - (i + 8)) (drop (i + 8) v)) ≡ found.At j → At (i + 8) j ≡ charset v
-    to_the_next {j} h = rest (found.At j) h
+  pub label_fits : (i : ℕ) → first pattern v ≡ Some i → i + 8 ≤ length v
+  label_fits i e = first_inside pattern v i e
 
-    pub to_the_end : first pattern (take (length v - (i + 8)) (drop (i + 8) v)) ≡ found.Nowhere → At (i + 8) (length v - (i + 8)) ≡ charset v
-    to_the_end h = ap (At (i + 8)) (sym (length-drop (i + 8) v)) ∙ rest found.Nowhere h
+-- what `charset_in` may use
+pub ruleset charset_cases = (no_label, label_found, label_fits)
 
 -- the three labels of UTF-8, tried in turn
 module _ (s : List ℕ) {t : List ℕ} (e : t ≡ trim label s) where

@@ -1,25 +1,15 @@
 -- Every line of a header, as a loop over them meets it. Assumes nothing.
 use Prim.Native.Nat.{ℕ, ◌+◌, ◌-◌, ◌<◌, ◌≤◌}
-use mathlib.Core.Path.{◌≡◌, refl, sym, ap, ◌∙◌}
+use mathlib.Core.Path.{◌≡◌, sym, ap, ◌∙◌}
 use mathlib.Core.Bool.{Bool, true, false}
-use mathlib.Core.List.{List, [], ◌∷◌}
-use native.Mathlib.Omega.{arith}
+use mathlib.Core.List.{List}
 use lib.ListN.{length, take, drop}
 use lib.Dec.{ltb}
 use borrow.Author.Tests.{ltb-true, ltb-false}
 use Rattle.text.specs.Bytes.{place}
 use Rattle.text.specs.Cut.{cut, every}
 use Rattle.text.proofs.Tests.{by_test}
-use Rattle.text.proofs.Cuts.{rest_last, rest_more}
-use Rattle.header_fields.specs.Fields.{line_ok}
-
-pub line_empty : (s : List ℕ) → length s ≡ 0 → true ≡ line_ok s
-line_empty [] h = refl
-line_empty (b ∷ s) h = absurd (omega arith)
-
-pub line_full : (s : List ℕ) (i : ℕ) → (length s ≡ 0 → ⊥) → i ≡ place 58 s → ltb i (length s) ≡ line_ok s
-line_full [] i h e = absurd (h refl)
-line_full (b ∷ s) i h e = rw e
+use Rattle.text.proofs.Cuts.{rest_last, rest_more, rest_bound}
 
 -- the pieces before at pass the test
 module _ (f : List ℕ → Bool) (x : ℕ) (s : List ℕ) where
@@ -41,3 +31,6 @@ module _ (f : List ℕ → Bool) (x : ℕ) (s : List ℕ) where
         by_test (false ≡ every f (cut x s)) (ltb end (length s))
         (λ q. sym (m ∙ ap (every f) (rest_more x s at end e (ltb-true _ _ q)) ∙ rw t))
         (λ q. sym (m ∙ ap (every f) (rest_last x s at end e i (ltb-false _ _ q)) ∙ rw t))
+
+-- what `lines_ok` may use
+pub ruleset passed_cases = (rest_bound, passed_last, passed_more, passed_not)

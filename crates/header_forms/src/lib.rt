@@ -4,74 +4,44 @@
 
 ghost use Rattle.std.specs.Prelude.{◌≡◌, ◌≤◌, length};
 ghost use Rattle.header_fields.specs.Promise.{end_of};
-ghost use Rattle.header_forms.specs.Forms.{is_count_name, counted, or_else, count_in, form_count, forms_at};
+ghost use Rattle.header_forms.specs.Forms.{is_count_name, count_in, form_count, forms_at};
 
 use text::Stretch;
-use text_digits::Number;
 use text_trim::Set;
-
-// A count of forms, or none.
-#[derive(Clone, Copy)]
-pub enum Forms {
-    Given(u64),
-    Absent,
-}
 
 // The GNU manual's name, or the crate's.
 fn is_count_name(name: &[u8]) -> bool
     ensures { result ≡ is_count_name name.now }
 {
-    if text::equal(name, b"nplurals") {
-        return true;
-    }
-    text::equal(name, b"n_plurals")
-}
-
-// What digits come to, as a count.
-fn counted(number: Number) -> Forms
-    ensures { result ≡ counted number }
-{
-    match number {
-        Number::Whole(k) => Forms::Given(k),
-        Number::NoNumber => Forms::Absent,
-    }
-}
-
-// The first count, where it is given, else the second.
-fn or_else(p: Forms, q: Forms) -> Forms
-    ensures { result ≡ or_else p q }
-{
-    match p {
-        Forms::Given(k) => p,
-        Forms::Absent => q,
-    }
+    text::equal(name, b"nplurals") || text::equal(name, b"n_plurals")
 }
 
 // The count in a piece of Plural-Forms.
-fn count_in(piece: &[u8]) -> Forms
+#[tactic(auto, using(crate::proofs::Pieces::count_cases))]
+fn count_in(piece: &[u8]) -> Option<u64>
     ensures { result ≡ count_in piece.now }
 {
     let i = text::find_byte(piece, b'=');
     if piece.len() <= i {
-        return Forms::Absent;
+        return None;
     }
-    if is_count_name(text_trim::trim(&piece[..i], Set::Six)) {
-        let after = i + 1;
-        let value = text_trim::trim(&piece[after..], Set::Six);
-        return counted(text_digits::digits_of(value));
+    if !is_count_name(text_trim::trim(&piece[..i], Set::Six)) {
+        return None;
     }
-    Forms::Absent
+    let after = i + 1;
+    text_digits::digits_of(text_trim::trim(&piece[after..], Set::Six))
 }
 
 // The last well-formed count in a Plural-Forms.
-fn form_count(v: &[u8]) -> Forms
+fn form_count(v: &[u8]) -> Option<u64>
     ensures { result ≡ form_count v.now }
 {
-    let mut found = Forms::Absent;
+    let mut found = None;
     let mut at = 0;
+    // from piece to piece, as `text` finds where each ends, by blocks
     loop {
         let end = text::find_byte_from(v, at, b';');
-        found = or_else(count_in(&v[at..end]), found);
+        found = count_in(&v[at..end]).or(found);
         if v.len() <= end {
             return found;
         }
@@ -80,15 +50,12 @@ fn form_count(v: &[u8]) -> Forms
 }
 
 // The count in the Plural-Forms whose value lies at a place of the header. The caller proves that the place lies in it.
-pub fn forms_at(h: &[u8], p: Stretch) -> Forms
+#[tactic(auto, using(crate::proofs::Pieces::at_place))]
+pub fn forms_at(h: &[u8], p: Option<Stretch>) -> Option<u64>
     requires { end_of p ≤ length h.now }
     ensures { result ≡ forms_at h.now p }
 {
-    match p {
-        Stretch::At(start, len) => {
-            let end = start + len;
-            form_count(&h[start..end])
-        }
-        Stretch::Absent => Forms::Absent,
-    }
+    let p = p?;
+    let end = p.start + p.len;
+    form_count(&h[p.start..end])
 }

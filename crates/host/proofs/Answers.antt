@@ -1,5 +1,4 @@
--- A lookup's answer by its reason: any but an answer is a fallback, and the answer says what the reason says: its number, and which text.
--- Assumes nothing.
+-- A lookup's answer says what its reason says: its number, and which text. Assumes nothing.
 use Prim.Native.Nat.{ℕ}
 use mathlib.Core.Path.{◌≡◌, refl}
 use Rattle.lookup.specs.Lookup.{number}
@@ -8,16 +7,7 @@ use Rattle.lookup.specs.declared.Reason.{Reason}
 use Rattle.lookup.specs.declared.Reason.TheVariants.{StaleLength, NoTree, IndexRoom, ZeroModulus, NoEntry, TooFewSegments, Answered}
 use Rattle.lookup.specs.declared.Text.{Text}
 use Rattle.lookup.specs.declared.Text.TheVariants.{Segment, Id, PluralId}
-use Rattle.host.specs.Host.{fallback, answer_of}
-
-pub not_answered : (own : ℕ) (r : Reason) → ((i form start len : ℕ) → r ≡ Answered i form start len → ⊥) → fallback (number r) own ≡ answer_of own r
-not_answered own StaleLength h = refl
-not_answered own NoTree h = refl
-not_answered own IndexRoom h = refl
-not_answered own ZeroModulus h = refl
-not_answered own NoEntry h = refl
-not_answered own (TooFewSegments i) h = refl
-not_answered own (Answered i form start len) h = absurd (h i form start len refl)
+use Rattle.host.specs.Host.{answer_of}
 
 -- its number is the reason's
 pub answer_number : (own : ℕ) (r : Reason) → (answer_of own r).number ≡ number r

@@ -1,4 +1,3 @@
-pub mod Heads
 pub mod Answers
 pub mod Explains
 pub mod Unique

@@ -12,6 +12,10 @@ use Rattle.host.proofs.loaded_of.Reads as loaded-of
 use Rattle.host.proofs.loaded_of.Kinds as loaded-of-kinds
 use Rattle.host.proofs.tables_in.Reads as tables_in_lem
 use Rattle.host.proofs.tables_in.Kinds as tables-in-kinds
+use Rattle.host.proofs.rule_in.Reads as rule_in_lem
+use Rattle.host.proofs.rule_in.Kinds as rule-in-kinds
+use Rattle.host.proofs.key_in.Reads as key_in_lem
+use Rattle.host.proofs.key_in.Kinds as key-in-kinds
 use Rattle.host.proofs.own_for.Reads as own-for
 use Rattle.host.proofs.own_for.Kinds as own-for-kinds
 use Rattle.host.proofs.answer_of.Reads as answer-of
@@ -41,6 +45,12 @@ loaded_of_one κs a u v x y p q = p.0 ∙ sym q.0
 
 pub tables_in_one : One 1 tables-in-kinds.ps tables-in-kinds.r tables_in_lem.Post
 tables_in_one κs a u v x y p q = p ∙ sym q
+
+pub rule_in_one : One 1 rule-in-kinds.ps rule-in-kinds.r rule_in_lem.Post
+rule_in_one κs a u v x y p q = p ∙ sym q
+
+pub key_in_one : One 1 key-in-kinds.ps key-in-kinds.r key_in_lem.Post
+key_in_one κs a u v x y p q = p.0 ∙ sym q.0
 
 pub own_for_one : One 0 own-for-kinds.ps own-for-kinds.r own-for.Post
 own_for_one κs a u v x y p q = p ∙ sym q

@@ -1,21 +1,22 @@
-// What a host in C or Rust says and is told: numbers, in records with the layout of C. A flag is a number, any but 0 being yes, so that no
-// record and no call that a host can make is senseless.
+// What a host in C or Rust says and is told: numbers, in records with the layout of C; inside, flags, rules, keys and answers have types of
+// their own. A flag is a number, any but 0 being yes, so that no record and no call that a host can make is senseless.
 #![tactic(auto)]
 
 ghost use Rattle.std.specs.Prelude.{◌≡◌, ◌<◌, ◌%◌};
 ghost use Rattle.rules.specs.Value.{truth};
-ghost use Rattle.host.specs.Explained.{left_own, explained_of};
-ghost use Rattle.host.specs.Host.{is_set, reading_of, options_of, head_of, tables_in, counted_by, count_by, loaded_of, own_for, fallback, answer_of, rating_of, fits_of, value_of, written_of};
+ghost use Rattle.lookup_scan.specs.Keys.{key_of, bytes_of};
+ghost use Rattle.host.specs.Explained.{explained_of};
+ghost use Rattle.host.specs.Host.{is_set, reading_of, options_of, head_of, tables_in, rule_in, key_in, loaded_of, own_for, fallback, answer_of, rating_of, fits_of, value_of, written_of};
 
 use container::{Loading, Options};
 use container_layout::Tables;
-use header_forms::Forms;
 use lookup::Reason;
+use lookup_scan::Key;
 use lookup_why::Why;
 use reading_rule::Reading;
 use refusal::Error;
-use rules::{Fit, Rated, Resolved};
-use rules_text::Writing;
+use rules::{NoForm, NoTree, Nodes, Rule};
+use rules_text::Unwritten;
 
 // How a load went: the number; where a refused one failed, the side (0 none, 1 original, 2 translation, 3 header, 4 rule), whether (1) an entry
 // is named, and its index; whether (1) the header gives a count of forms, and that count, 0 where it does not; and the head of the record, that of
@@ -91,16 +92,16 @@ fn is_set(flag: usize) -> bool
 pub fn flag_of(b: bool) -> u32
     ensures { result ≡ truth b }
 {
-    if b { 1 } else { 0 }
+    u32::from(b)
 }
 
 fn reading_of(standard: u32) -> Reading
     ensures { result ≡ reading_of standard }
 {
-    if standard == 0 {
-        return Reading::Shipped;
+    match standard {
+        0 => Reading::Shipped,
+        _ => Reading::Standard,
     }
-    Reading::Standard
 }
 
 // How to load, from four flags.
@@ -113,12 +114,6 @@ pub fn options_of(forced: u32, standard: u32, utf8: u32, fit: u32) -> Options
         utf8: utf8 != 0,
         fit: fit != 0,
     }
-}
-
-fn order_of(big: bool) -> usize
-    ensures { result ≡ truth big }
-{
-    if big { 1 } else { 0 }
 }
 
 // The head of a record with those tables, whose rule has that many nodes, the last of them the root.
@@ -135,29 +130,10 @@ pub fn head_of(t: Tables, nodes: usize) -> [usize; 7]
         count,
         originals,
         translations,
-        order_of(t.big),
+        usize::from(t.big),
         nodes,
         nodes - 1,
     ]
-}
-
-// Whether a count is given, and the count, 0 where it is not.
-fn is_given(forms: Forms) -> u32
-    ensures { result ≡ counted_by forms }
-{
-    match forms {
-        Forms::Given(k) => 1,
-        Forms::Absent => 0,
-    }
-}
-
-fn count_of(forms: Forms) -> u64
-    ensures { result ≡ count_by forms }
-{
-    match forms {
-        Forms::Given(k) => k,
-        Forms::Absent => 0,
-    }
 }
 
 // How a load went.
@@ -174,14 +150,14 @@ pub fn loaded_of(loading: Loading) -> Loaded
         number: refusal::outcome_number(outcome),
         side: refusal::side_number(place),
         entered: flag_of(refusal::names_entry(place)),
-        counted: is_given(forms),
+        counted: flag_of(forms.is_some()),
         entry: refusal::entry_index(place),
-        forms: count_of(forms),
+        forms: forms.unwrap_or(0),
         head: head_of(tables, loading.nodes),
     }
 }
 
-// A word of a file has 32 bits: of a larger number the low 32 count.
+// A word of a file has 32 bits: of a larger number the low 32 count. (An `as` alone may lose no bits.)
 fn low(x: usize) -> u32
     ensures { result ≡ x % 4294967296 }
 {
@@ -201,7 +177,38 @@ pub fn tables_in<'a>(head: &'a [usize; 7]) -> Tables
     }
 }
 
-// The caller's own text for a count: the id for one, the plural id otherwise.
+// The rule of a record that a host lends, by its head and its three arrays.
+pub fn rule_in<'a>(
+    head: &'a [usize; 7],
+    codes: &'a [u8; 512],
+    places: &'a [u16; 1024],
+    values: &'a [u64; 512],
+) -> Rule<'a>
+    ensures { result ≡ rule_in head.now codes.entry places.entry values.entry }
+{
+    let nodes = Nodes {
+        codes,
+        places,
+        values,
+    };
+    Rule {
+        nodes,
+        count: head[5],
+        root: head[6],
+    }
+}
+
+// The key of a lookup: the id, and the context where the flag says that there is one.
+pub fn key_in<'a>(given: u32, context: &'a [u8], id: &'a [u8]) -> Key<'a>
+    ensures is { result ≡ key_in given context.entry id.entry }
+    ensures bytes { bytes_of result ≡ key_of (is_set given) context.now id.now }
+{
+    let context = if given == 0 { None } else { Some(context) };
+    Key { context, id }
+}
+
+// The caller's own text for a count: the id for one, the plural id otherwise. It is the number that C is told, here and below, and no enum: an
+// answer may be asked with any number.
 pub fn own_for(n: u64) -> u32
     ensures { result ≡ own_for n }
 {
@@ -238,23 +245,23 @@ pub fn answer_of(reason: Reason, own: u32) -> Answer
     }
 }
 
-pub fn rating_of(rated: Rated) -> Rating
+pub fn rating_of(rated: Result<Option<(u64, u64)>, NoTree>) -> Rating
     ensures { result ≡ rating_of rated }
 {
     match rated {
-        Rated::Range(lowest, highest) => Rating {
+        Ok(Some((lowest, highest))) => Rating {
             number: 0,
             rated: 1,
             lowest,
             highest,
         },
-        Rated::Unrated => Rating {
+        Ok(None) => Rating {
             number: 0,
             rated: 0,
             lowest: 0,
             highest: 0,
         },
-        Rated::NoTree => Rating {
+        Err(NoTree) => Rating {
             number: refusal::number_of(Error::BadRecord),
             rated: 0,
             lowest: 0,
@@ -263,45 +270,47 @@ pub fn rating_of(rated: Rated) -> Rating
     }
 }
 
-pub fn fits_of(fit: Fit) -> Fits
+pub fn fits_of(fit: Result<bool, NoTree>) -> Fits
     ensures { result ≡ fits_of fit }
 {
     match fit {
-        Fit::Yes => Fits { number: 0, fits: 1 },
-        Fit::No => Fits { number: 0, fits: 0 },
-        Fit::NoTree => Fits {
+        Ok(fits) => Fits {
+            number: 0,
+            fits: flag_of(fits),
+        },
+        Err(NoTree) => Fits {
             number: refusal::number_of(Error::BadRecord),
             fits: 0,
         },
     }
 }
 
-pub fn form_of(resolved: Resolved) -> Form
+pub fn form_of(resolved: Result<u64, NoForm>) -> Form
     ensures { result ≡ value_of resolved }
 {
     match resolved {
-        Resolved::Form(form) => Form { number: 0, form },
-        Resolved::ZeroModulus => Form {
+        Ok(form) => Form { number: 0, form },
+        Err(NoForm::ZeroModulus) => Form {
             number: refusal::number_of(Error::ZeroModulus),
             form: 0,
         },
-        Resolved::NoTree => Form {
+        Err(NoForm::NoTree) => Form {
             number: refusal::number_of(Error::BadRecord),
             form: 0,
         },
     }
 }
 
-pub fn written_of(writing: Writing) -> Written
+pub fn written_of(writing: Result<usize, Unwritten>) -> Written
     ensures { result ≡ written_of writing }
 {
     match writing {
-        Writing::Length(len) => Written { number: 0, len },
-        Writing::TooLong => Written {
+        Ok(len) => Written { number: 0, len },
+        Err(Unwritten::TooLong) => Written {
             number: refusal::number_of(Error::RuleTooLong),
             len: 0,
         },
-        Writing::NoTree => Written {
+        Err(Unwritten::NoTree) => Written {
             number: refusal::number_of(Error::BadRecord),
             len: 0,
         },
@@ -324,52 +333,46 @@ pub struct Explained {
     pub len: usize,
 }
 
-// A reason that leaves the caller's own text, with what it tells.
-fn left_own(
-    kind: u32,
-    told: u32,
-    own: u32,
-    node: usize,
-    entry: usize,
-    stored: usize,
-    form: u64,
-) -> Explained
-    ensures { result ≡ left_own kind told own node entry stored form }
-{
-    Explained {
-        kind,
-        number: told,
-        which: own,
-        node,
-        entry,
-        stored,
-        form,
-        start: 0,
-        len: 0,
-    }
-}
-
 // The reason in numbers; `own` is the caller's own text.
 pub fn explained_of(why: Why, own: u32) -> Explained
     ensures { result ≡ explained_of own why }
 {
-    let told = lookup::number_of(lookup_why::reason_of(why));
+    let reason = lookup_why::reason_of(why);
+    let untold = Explained {
+        kind: 0,
+        number: lookup::number_of(reason),
+        which: own,
+        node: 0,
+        entry: 0,
+        stored: 0,
+        form: 0,
+        start: 0,
+        len: 0,
+    };
     match why {
-        Why::StaleLength => left_own(1, told, own, 0, 0, 0, 0),
-        Why::NoTree => left_own(2, told, own, 0, 0, 0, 0),
-        Why::ZeroDivisor(node) => left_own(3, told, own, node, 0, 0, 0),
-        Why::NoEntry => left_own(4, told, own, 0, 0, 0, 0),
-        Why::TooFewSegments(entry, stored, form) => left_own(5, told, own, 0, entry, stored, form),
+        Why::StaleLength => Explained { kind: 1, ..untold },
+        Why::NoTree => Explained { kind: 2, ..untold },
+        Why::ZeroDivisor(node) => Explained {
+            kind: 3,
+            node,
+            ..untold
+        },
+        Why::NoEntry => Explained { kind: 4, ..untold },
+        Why::TooFewSegments(entry, stored, form) => Explained {
+            kind: 5,
+            entry,
+            stored,
+            form,
+            ..untold
+        },
         Why::Answered(entry, form, start, len) => Explained {
             kind: 6,
-            number: told,
             which: 0,
-            node: 0,
             entry,
-            stored: 0,
             form,
             start,
             len,
+            ..untold
         },
     }
 }

@@ -6,17 +6,14 @@ use native.Mathlib.Omega.{arith}
 use lib.ListN.{length, get_or, take, drop}
 use Rattle.rules.specs.Pool.{Pool}
 use Rattle.rules.specs.Answer.{resolved_of, rated_of}
-use Rattle.rules.specs.declared.Resolved.{Resolved}
-use Rattle.rules.specs.declared.Resolved.TheVariants as resolved
-use Rattle.rules.specs.declared.Rated.TheVariants as rated
+use Rattle.rules.specs.declared.NoForm.{NoForm}
 use Rattle.rules.proofs.Forms.{rated_forms}
 use Rattle.container_layout.specs.Mo.{segment, segments}
 use Rattle.container_layout.specs.declared.Tables.{Tables}
-use Rattle.text.specs.declared.Stretch.TheVariants as stretch
 use Rattle.container_layout.proofs.Forms.{segment_holds, segment_is}
 use Rattle.lookup_scan.specs.Keys.{last_with}
 use Rattle.lookup_scan.specs.declared.Hit.{Hit}
-use Rattle.lookup_scan.specs.declared.Hit.TheVariants as hit
+use Rattle.std.specs.Prelude.{Option, Some, Result, Ok}
 use Rattle.lookup_scan.proofs.Entries.{translation_inside}
 use Rattle.lookup_scan.proofs.Last.{Sound, last_sound}
 use Rattle.lookup.specs.Lookup.{by_entry, by_segment, plural}
@@ -26,9 +23,9 @@ use Rattle.lookup.proofs.Reasons.{by_rule_lem}
 
 -- the rule's value is a form from lo to hi, and the answer is the segment of entry i that this very form names: the file's bytes there are
 -- that segment of the entry's translation, which starts at start and is len bytes long
-pub record Names (s : List ℕ) (v : Resolved) (i start len lo hi : ℕ) (a : Reason) : Type 0 where
+pub record Names (s : List ℕ) (v : Result ℕ NoForm) (i start len lo hi : ℕ) (a : Reason) : Type 0 where
   pub form : ℕ
-  pub value : v ≡ resolved.Form form
+  pub value : v ≡ Ok form
   pub low : lo ≤ form
   pub high : form ≤ hi
   pub at : ℕ
@@ -39,16 +36,16 @@ pub record Names (s : List ℕ) (v : Resolved) (i start len lo hi : ℕ) (a : Re
 
 -- A rule rated lo to hi with hi below k, at a count below 2^64: a lookup in a file of the record's length, whose entry with the key, found by
 -- a search that finds only such, stores at least k segments, answers the very segment that the rule's form names.
-module _ (s : List ℕ) (t : Tables) (P : Pool) (nodes root : ℕ) (key : List ℕ) (lo hi k n : ℕ) {i start len : ℕ}
-    (r : rated_of P nodes root ≡ rated.Range lo hi) (below : hi < k) (b : n < 2 ^ 64) (long : length s ≡ t.length) where
-  pub rated_hit : {h : Hit} → Sound s t key h → h ≡ hit.At i start len → k ≤ length (segments s start len)
-      → Names s (resolved_of P nodes root n) i start len lo hi (plural s t (resolved_of P nodes root n) h)
+module _ (s : List ℕ) (t : Tables) (P : Pool) (nodes root : ℕ) (key : List ℕ) (lo hi k n : ℕ) {x : Hit}
+    (r : rated_of P nodes root ≡ Ok (Some (lo, hi))) (below : hi < k) (b : n < 2 ^ 64) (long : length s ≡ t.length) where
+  pub rated_hit : {h : Option Hit} → Sound s t key h → h ≡ Some x → k ≤ length (segments s x.start x.len)
+      → Names s (resolved_of P nodes root n) x.entry x.start x.len lo hi (plural s t (resolved_of P nodes root n) h)
   rated_hit {h} w f g =
       let v = rated_forms P nodes root lo hi r n b in
-      let l : v.form < length (segments s start len) = omega (arith, v.high) in
-      let e : start + len ≤ length s = translation_inside s t i (w.told i start len f).has.entry in
-      let q = segment_holds s start len e v.form l in
-      let x : segment s start len v.form ≡ stretch.At q.start q.len = segment_is s start len e v.form ∙ q.is in
+      let l : v.form < length (segments s x.start x.len) = omega (arith, v.high) in
+      let e : x.start + x.len ≤ length s = translation_inside s t x.entry (w.told x f).has.entry in
+      let q = segment_holds s x.start x.len e v.form l in
+      let y : segment s x.start x.len v.form ≡ Some (record { start = q.start; len = q.len }) = segment_is s x.start x.len e v.form ∙ q.is in
       record {
         form = v.form;
         value = v.is;
@@ -56,12 +53,12 @@ module _ (s : List ℕ) (t : Tables) (P : Pool) (nodes root : ℕ) (key : List �
         high = v.high;
         at = q.start;
         size = q.len;
-        is = sym (by_rule_lem s t (resolved_of P nodes root n) h long refl v.is (sym (ap (by_entry s v.form) f ∙ ap (by_segment i v.form) x)));
+        is = sym (by_rule_lem s t (resolved_of P nodes root n) h long refl v.is (sym (ap (by_entry s v.form) f ∙ ap (by_segment x.entry v.form) y)));
         text = q.text;
         inside = q.inside;
       }
 
   -- by the scan
-  pub rated_lookup : last_with s t key ≡ hit.At i start len → k ≤ length (segments s start len)
-      → Names s (resolved_of P nodes root n) i start len lo hi (plural s t (resolved_of P nodes root n) (last_with s t key))
+  pub rated_lookup : last_with s t key ≡ Some x → k ≤ length (segments s x.start x.len)
+      → Names s (resolved_of P nodes root n) x.entry x.start x.len lo hi (plural s t (resolved_of P nodes root n) (last_with s t key))
   rated_lookup f g = rated_hit (last_sound s t key) f g

@@ -10,19 +10,8 @@ use denote.Ref.{Bor}
 use Rattle.text.proofs.Tests.{taken, left}
 use Rattle.lookup.specs.Text.{text_or, plural_text, IsText}
 use Rattle.lookup.specs.declared.Reason.{Reason}
-use Rattle.lookup.specs.declared.Reason.TheVariants.{StaleLength, NoTree, IndexRoom, ZeroModulus, NoEntry, TooFewSegments, Answered}
 use Rattle.lookup.specs.declared.Text.{Text}
 use Rattle.lookup.specs.declared.Text.TheVariants.{Segment, Id, PluralId}
-
--- any reason but an answer leaves the caller's own text
-pub own_text : (own : Text) (r : Reason) → ((i form start len : ℕ) → r ≡ Answered i form start len → ⊥) → own ≡ text_or own r
-own_text own StaleLength h = refl
-own_text own NoTree h = refl
-own_text own IndexRoom h = refl
-own_text own ZeroModulus h = refl
-own_text own NoEntry h = refl
-own_text own (TooFewSegments i) h = refl
-own_text own (Answered i form start len) h = absurd (h i form start len refl)
 
 -- with a count the caller's own text is the id for 1
 module _ (n : ℕ) (r : Reason) {x : Text} where

@@ -31,16 +31,16 @@ use Rattle.lookup.proofs.plural_text.Kinds as plural-text-kinds
 use Rattle.lookup.proofs.text_of.Reads as text_of
 use Rattle.lookup.proofs.text_of.Kinds as text-of-kinds
 
-pub find_one_lem : One 3 find-kinds.ps find-kinds.r find.Post
+pub find_one_lem : One 2 find-kinds.ps find-kinds.r find.Post
 find_one_lem κs a u v x y p q = p ∙ sym q
 
-pub nfind_one : One 2 nfind-kinds.ps nfind-kinds.r nfind.Post
+pub nfind_one : One 3 nfind-kinds.ps nfind-kinds.r nfind.Post
 nfind_one κs a u v x y p q = p ∙ sym q
 
-pub find_indexed_one : One 4 find-indexed-kinds.ps find-indexed-kinds.r find-indexed.Post
+pub find_indexed_one : One 3 find-indexed-kinds.ps find-indexed-kinds.r find-indexed.Post
 find_indexed_one κs a u v x y p q = p ∙ sym q
 
-pub nfind_indexed_one : One 2 nfind-indexed-kinds.ps nfind-indexed-kinds.r nfind-indexed.Post
+pub nfind_indexed_one : One 4 nfind-indexed-kinds.ps nfind-indexed-kinds.r nfind-indexed.Post
 nfind_indexed_one κs a u v x y p q = p ∙ sym q
 
 pub number_of_one : One 0 number-of-kinds.ps number-of-kinds.r number_of_lem.Post

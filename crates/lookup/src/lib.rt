@@ -2,20 +2,19 @@
 // is copied. What follows from the entry with the key is said once, however that entry is found.
 #![tactic(auto)]
 
-ghost use Rattle.std.specs.Prelude.{◌≡◌};
-ghost use Rattle.rules.specs.Pool.{pool};
+ghost use Rattle.std.specs.Prelude.{◌≡◌, Ok};
+ghost use Rattle.rules.specs.Pool.{pool_in};
 ghost use Rattle.rules.specs.Answer.{resolved_of};
-ghost use Rattle.lookup_scan.specs.Keys.{key_of, last_with};
+ghost use Rattle.lookup_scan.specs.Keys.{bytes_of, last_with};
 ghost use Rattle.lookup_index.specs.Index.{sought_in};
 ghost use Rattle.lookup.specs.Lookup.{by_entry, by_rule, few_slots, by_slots, singular, plural, singular_in, plural_in, number};
 ghost use Rattle.lookup.specs.Text.{text_or, singular_text, plural_text, IsText};
 
 use container_layout::Tables;
-use lookup_index::Sought;
-use lookup_scan::Hit;
+use lookup_index::TooFewSlots;
+use lookup_scan::{Hit, Key};
 use refusal::Error;
-use rules::Resolved;
-use text::Stretch;
+use rules::{NoForm, Rule};
 
 // Why a lookup answers as it does, the first of these that holds: the file's length is not the record's; the rule's nodes are no tree; fewer
 // slots are lent than the index uses, where one is; the rule takes a remainder by zero; no entry has the key; the entry stores no segment of
@@ -40,45 +39,48 @@ pub enum Text {
 }
 
 // What follows from the entry with the key: the segment that a form names.
-fn by_entry(file: &[u8], hit: Hit, form: u64) -> Reason
+fn by_entry(file: &[u8], hit: Option<Hit>, form: u64) -> Reason
     ensures { result ≡ by_entry file.now form hit }
 {
-    let Hit::At(entry, start, len) = hit else {
+    let Some(found) = hit else {
         return Reason::NoEntry;
     };
-    let segment = container_layout::segment_at(file, start, len, form);
-    let Stretch::At(at, n) = segment else {
-        return Reason::TooFewSegments(entry);
+    let Some(segment) = container_layout::segment_at(file, found.start, found.len, form) else {
+        return Reason::TooFewSegments(found.entry);
     };
-    Reason::Answered(entry, form, at, n)
+    Reason::Answered(found.entry, form, segment.start, segment.len)
 }
 
 // What follows from the rule's value, and where it is a form from the entry with the key.
-fn by_rule(file: &[u8], value: Resolved, hit: Hit) -> Reason
+fn by_rule(file: &[u8], value: Result<u64, NoForm>, hit: Option<Hit>) -> Reason
     ensures { result ≡ by_rule file.now value hit }
 {
     match value {
-        Resolved::Form(form) => by_entry(file, hit, form),
-        Resolved::ZeroModulus => Reason::ZeroModulus,
-        Resolved::NoTree => Reason::NoTree,
+        Ok(form) => by_entry(file, hit, form),
+        Err(NoForm::ZeroModulus) => Reason::ZeroModulus,
+        Err(NoForm::NoTree) => Reason::NoTree,
     }
 }
 
 // Too few slots are refused before a remainder by zero, and after nodes that are no tree.
-fn few_slots(value: Resolved) -> Reason
+fn few_slots(value: Result<u64, NoForm>) -> Reason
     ensures { result ≡ few_slots value }
 {
-    if let Resolved::NoTree = value {
+    if let Err(NoForm::NoTree) = value {
         return Reason::NoTree;
     }
     Reason::IndexRoom
 }
 
 // The same as `by_rule`, of what was sought in lent slots.
-fn by_slots(file: &[u8], value: Resolved, sought: Sought) -> Reason
+fn by_slots(
+    file: &[u8],
+    value: Result<u64, NoForm>,
+    sought: Result<Option<Hit>, TooFewSlots>,
+) -> Reason
     ensures { result ≡ by_slots file.now value sought }
 {
-    let Sought::Found(hit) = sought else {
+    let Ok(hit) = sought else {
         return few_slots(value);
     };
     by_rule(file, value, hit)
@@ -86,89 +88,63 @@ fn by_slots(file: &[u8], value: Resolved, sought: Sought) -> Reason
 
 // A lookup without a count: `gettext`, and with a context `pgettext`.
 #[tactic(auto, using(crate::proofs::Reasons::stale))]
-pub fn find(file: &[u8], t: Tables, given: bool, context: &[u8], id: &[u8]) -> Reason
-    ensures { result ≡ singular file.now t (last_with file.now t (key_of given context.now id.now)) }
+pub fn find(file: &[u8], t: Tables, key: Key<'_>) -> Reason
+    ensures { result ≡ singular file.now t (last_with file.now t (bytes_of key.entry)) }
 {
     if file.len() != t.length {
         return Reason::StaleLength;
     }
-    let hit = lookup_scan::last_hit(file, t, given, context, id);
+    let hit = lookup_scan::last_hit(file, t, key);
     by_entry(file, hit, 0)
 }
 
 // A lookup with a count: `ngettext`, and with a context `npgettext`. The rule is resolved before the key is sought.
 #[tactic(auto, using(crate::proofs::Reasons::stale))]
-pub fn nfind<'a, 'b>(
-    file: &'a [u8],
-    t: Tables,
-    codes: &'b [u8; 512],
-    places: &'b [u16; 1024],
-    values: &'b [u64; 512],
-    nodes: usize,
-    root: usize,
-    given: bool,
-    context: &'a [u8],
-    id: &'a [u8],
-    n: u64,
-) -> Reason
-    ensures { result ≡ plural file.now t (resolved_of (pool codes.now places.now values.now) nodes root n)
-        (last_with file.now t (key_of given context.now id.now)) }
+pub fn nfind(file: &[u8], t: Tables, rule: Rule<'_>, key: Key<'_>, n: u64) -> Reason
+    ensures { result ≡ plural file.now t (resolved_of (pool_in rule.entry.nodes) rule.entry.count rule.entry.root n)
+        (last_with file.now t (bytes_of key.entry)) }
 {
     if t.length != file.len() {
         return Reason::StaleLength;
     }
-    let resolved = rules_value::resolve(codes, places, values, nodes, root, n);
-    let Resolved::Form(form) = resolved else {
-        return by_rule(file, resolved, Hit::Missing);
-    };
-    let hit = lookup_scan::last_hit(file, t, given, context, id);
-    by_rule(file, Resolved::Form(form), hit)
+    let resolved = rules_value::resolve(rule, n);
+    if resolved.is_err() {
+        return by_rule(file, resolved, None);
+    }
+    let hit = lookup_scan::last_hit(file, t, key);
+    by_rule(file, resolved, hit)
 }
 
-// A lookup without a count in lent slots.
-pub fn find_indexed(
-    file: &[u8],
-    t: Tables,
-    slots: &[u32],
-    given: bool,
-    context: &[u8],
-    id: &[u8],
-) -> Reason
-    ensures { result ≡ singular_in file.now t
-        (sought_in file.now t slots.now (key_of given context.now id.now)) }
+// A lookup without a count in lent slots. It is no case of `find`, since only here may the slots be too few, and the scan of `find` needs none.
+pub fn find_indexed(file: &[u8], t: Tables, slots: &[u32], key: Key<'_>) -> Reason
+    ensures { result ≡ singular_in file.now t (sought_in file.now t slots.now (bytes_of key.entry)) }
 {
     let size = file.len();
     if size != t.length {
         return Reason::StaleLength;
     }
-    let sought = lookup_index::find(file, t, slots, given, context, id);
-    by_slots(file, Resolved::Form(0), sought)
+    let sought = lookup_index::find(file, t, slots, key);
+    by_slots(file, Ok(0), sought)
 }
 
-// A lookup with a count in lent slots.
-pub fn nfind_indexed<'a, 'b>(
-    file: &'a [u8],
+// A lookup with a count in lent slots; the key is sought whatever the rule names, since a search in slots is a few steps.
+pub fn nfind_indexed(
+    file: &[u8],
     t: Tables,
-    slots: &'a [u32],
-    codes: &'b [u8; 512],
-    places: &'b [u16; 1024],
-    values: &'b [u64; 512],
-    nodes: usize,
-    root: usize,
-    given: bool,
-    context: &'a [u8],
-    id: &'a [u8],
+    slots: &[u32],
+    rule: Rule<'_>,
+    key: Key<'_>,
     n: u64,
 ) -> Reason
-    ensures { result ≡ plural_in file.now t (resolved_of (pool codes.now places.now values.now) nodes root n)
-        (sought_in file.now t slots.now (key_of given context.now id.now)) }
+    ensures { result ≡ plural_in file.now t (resolved_of (pool_in rule.entry.nodes) rule.entry.count rule.entry.root n)
+        (sought_in file.now t slots.now (bytes_of key.entry)) }
 {
     let size = file.len();
     if t.length != size {
         return Reason::StaleLength;
     }
-    let value = rules_value::resolve(codes, places, values, nodes, root, n);
-    let sought = lookup_index::find(file, t, slots, given, context, id);
+    let value = rules_value::resolve(rule, n);
+    let sought = lookup_index::find(file, t, slots, key);
     by_slots(file, value, sought)
 }
 
@@ -182,8 +158,8 @@ pub fn number_of(reason: Reason) -> u32
         Reason::IndexRoom => refusal::number_of(Error::IndexRoom),
         Reason::ZeroModulus => refusal::number_of(Error::ZeroModulus),
         Reason::NoEntry => 0,
-        Reason::TooFewSegments(entry) => 0,
-        Reason::Answered(entry, form, start, len) => 0,
+        Reason::TooFewSegments(_) => 0,
+        Reason::Answered(..) => 0,
     }
 }
 
@@ -191,7 +167,7 @@ pub fn number_of(reason: Reason) -> u32
 fn text_or(reason: Reason, own: Text) -> Text
     ensures { result ≡ text_or own reason }
 {
-    let Reason::Answered(entry, form, start, len) = reason else {
+    let Reason::Answered(_, _, start, len) = reason else {
         return own;
     };
     Text::Segment(start, len)
@@ -205,7 +181,7 @@ pub fn singular_text(reason: Reason) -> Text
 }
 
 // With a count it is the id for one, and the plural id otherwise.
-#[tactic(auto, using(crate::proofs::Said::for_one))]
+#[tactic(auto, using(crate::proofs::Said::for_one, crate::proofs::Said::for_many))]
 pub fn plural_text(reason: Reason, n: u64) -> Text
     ensures { result ≡ plural_text n reason }
 {

@@ -3,7 +3,6 @@ use Prim.Native.Nat.{ℕ, zero, suc, ◌<◌, ◌≤◌}
 use mathlib.Core.Path.{◌≡◌, refl, sym, ap, ◌∙◌}
 use mathlib.Core.Bool.{true}
 use mathlib.Core.List.{List}
-use mathlib.Core.Option.{none}
 use native.Mathlib.Omega.{arith}
 use lib.ListN.{length, take, drop, length-append}
 use lib.Seq.{take_at}
@@ -12,31 +11,29 @@ use borrow.Author.Tests.{eq-eqb, ltb-true, lt-ltb, le-ltb, leb-true, le-leb}
 use Rattle.text.proofs.Tests.{never, taken, left, by_test}
 use Rattle.container_layout.specs.Mo.{entry}
 use Rattle.container_layout.specs.declared.Entry.{Entry}
-use Rattle.container_layout.specs.declared.Entry.TheVariants as entries
 use Rattle.container_layout.specs.declared.Tables.{Tables}
 use Rattle.lookup_scan.specs.Keys.{is_key, hit_of, last_in, last_with}
-use Rattle.lookup_scan.specs.declared.Hit.TheVariants as hit
+use Rattle.lookup_scan.specs.declared.Hit.{Hit}
+use Rattle.std.specs.Prelude.{Option, Some, None, Ok, Err}
 use Rattle.lookup_scan.proofs.Entries.{keyed_told}
 use Rattle.lookup_scan.proofs.Last.{Entered, Sound}
 use Rattle.lookup_slots.specs.Used.{used}
 use Rattle.lookup_slots.specs.Slots.{has, walk, last}
 use Rattle.lookup_slots.proofs.Used.{used_more}
 use Rattle.lookup_slots.proofs.Built.{Holds, walk_holds, walk_built, built_length, last_here, last_on}
-use Rattle.lookup_index.specs.Index.{key_in, key_at, index, hit_in, indexed, sought_in, building, leaves}
-use Rattle.lookup_index.specs.declared.Sought.TheVariants as sought
-use Rattle.lookup_index.specs.declared.Building.TheVariants as went
+use Rattle.lookup_index.specs.Index.{too_few, key_in, key_at, index, hit_in, indexed, sought_in, building, leaves}
 
 module _ (s : List ℕ) (t : Tables) where
   -- an entry has the key, said of it and of its place
-  has_in : (key : List ℕ) (x : Entry) → has key (key_in s x) ≡ is_key s key x
-  has_in key (entries.At a n b m) = refl
-  has_in key entries.NoEntry = refl
+  has_in : (key : List ℕ) (x : Option Entry) → has key (key_in s x) ≡ is_key s key x
+  has_in key (Some x) = refl
+  has_in key None = refl
 
   pub key_below : (i : ℕ) → i < t.count → key_at s t i ≡ key_in s (entry s t i)
   unfolding key_at
   key_below i h = taken _ _ (lt-ltb i t.count h)
 
-  pub key_above : (i : ℕ) → t.count ≤ i → key_at s t i ≡ none
+  pub key_above : (i : ℕ) → t.count ≤ i → key_at s t i ≡ None
   unfolding key_at
   key_above i h = left _ _ (le-ltb i t.count h)
 
@@ -69,31 +66,29 @@ module _ (s : List ℕ) (t : Tables) where
   unfolding key_at
   below_of key i h =
       by_test (i < t.count) (ltb i t.count) (λ e. ltb-true i t.count e)
-      (λ e. absurd (never (sym (ap (has key) (left (key_in s (entry s t i)) none e)) ∙ h)))
+      (λ e. absurd (never (sym (ap (has key) (left (key_in s (entry s t i)) None e)) ∙ h)))
 
-  by_slot : (key : List ℕ) (x : ℕ) {i a n : ℕ} → (0 < x → Holds (key_at s t) key x) → hit_in s t x ≡ hit.At i a n → Entered s t key i a n
-  by_slot key zero h e = let z : ◌≡◌ {A = ℕ} 0 1 = cc in absurd (omega arith)
-  by_slot key (suc j) {i} {a} {n} h e =
-      let w : has key (key_at s t j) ≡ true = h (omega arith) in
+  by_slot : (key : List ℕ) (x : ℕ) {h : Hit} → (0 < x → Holds (key_at s t) key x) → hit_in s t x ≡ Some h → Entered s t key h
+  by_slot key zero f e = let z : ◌≡◌ {A = ℕ} 0 1 = cc in absurd (omega arith)
+  by_slot key (suc j) {h} f e =
+      let w : has key (key_at s t j) ≡ true = f (omega arith) in
       let l : j < t.count = below_of key j w in
       let k = keyed_told s t key j (sym (has_below key j l) ∙ w) in
-      let g : hit.At j k.start k.len ≡ hit.At i a n = sym (ap (hit_of j) k.has.entry) ∙ e in
-      let x : j ≡ i = cc in
-      let y : k.start ≡ a = cc in
-      let z : k.len ≡ n = cc in
-      rw (← x, ← y, ← z) (record { below = l; has = k.has })
+      let g : Some (record { entry = j; start = k.start; len = k.len }) ≡ Some h = sym (ap (hit_of j) k.has.entry) ∙ e in
+      let x : record { entry = j; start = k.start; len = k.len } ≡ h = cc in
+      rw (← x) (record { below = l; has = k.has })
 
   pub indexed_sound : (slots key : List ℕ) → Sound s t key (indexed s t slots key)
   unfolding indexed
-  indexed_sound slots key = record { told = λ i start len e. by_slot key (walk (key_at s t) key slots) (walk_holds (key_at s t) key slots) e }
+  indexed_sound slots key = record { told = λ h e. by_slot key (walk (key_at s t) key slots) (walk_holds (key_at s t) key slots) e }
 
   -- building succeeds where the length is the record's and enough slots are lent
-  pub built_exactly : (lent : ℕ) → length s ≡ t.length → used t.count ≤ lent → building s t lent ≡ went.Built
+  pub built_exactly : (lent : ℕ) → length s ≡ t.length → used t.count ≤ lent → building s t lent ≡ Ok tt
   unfolding building
   built_exactly lent e l = taken _ _ (eq-eqb (length s) t.length e) ∙ taken _ _ (le-leb (used t.count) lent l)
 
   -- The same of slots that are lent: `find` in slots that `build` left answers as the scan
-  module _ (lent : List ℕ) (b : building s t (length lent) ≡ went.Built) where
+  module _ (lent : List ℕ) (b : building s t (length lent) ≡ Ok tt) where
     enough : used t.count ≤ length lent
     unfolding building
     enough =
@@ -103,13 +98,13 @@ module _ (s : List ℕ) (t : Tables) where
         (λ f. let g = simp (e, f, building) at b in let z : ◌≡◌ {A = ℕ} 0 1 = cc in absurd (omega arith))
         (λ f. let g = simp (e, f, building) at b in let z : ◌≡◌ {A = ℕ} 0 1 = cc in absurd (omega arith)))
 
-    pub built_as_scan : (key : List ℕ) → sought_in s t (leaves s t lent went.Built) key ≡ sought.Found (last_with s t key)
+    pub built_as_scan : (key : List ℕ) → sought_in s t (leaves s t lent (Ok tt)) key ≡ Ok (last_with s t key)
     unfolding sought_in
     built_as_scan key =
-        let l : used t.count ≤ length (leaves s t lent went.Built) =
+        let l : used t.count ≤ length (leaves s t lent (Ok tt)) =
         omega (arith, length-append (index s t) (drop (used t.count) lent), index_length)
         in
-        taken (sought.Found (indexed s t (take (used t.count) (leaves s t lent went.Built)) key)) sought.TooFew
-        (le-leb (used t.count) (length (leaves s t lent went.Built)) l)
-        ∙ ap (λ (x : List ℕ). sought.Found (indexed s t x key)) (take_at (index s t) (drop (used t.count) lent) (used t.count) index_length)
-        ∙ ap sought.Found (indexed_as_scan key)
+        taken (Ok (indexed s t (take (used t.count) (leaves s t lent (Ok tt))) key)) (Err too_few)
+        (le-leb (used t.count) (length (leaves s t lent (Ok tt))) l)
+        ∙ ap (λ (x : List ℕ). Ok (indexed s t x key)) (take_at (index s t) (drop (used t.count) lent) (used t.count) index_length)
+        ∙ ap Ok (indexed_as_scan key)

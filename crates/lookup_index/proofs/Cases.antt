@@ -6,13 +6,11 @@ use mathlib.Core.List.{List, [], ◌∷◌}
 use Rattle.text.specs.Bytes.{bytes, same, front}
 use Rattle.container_layout.specs.Mo.{word, string, id_start, id_end, entry}
 use Rattle.container_layout.specs.declared.Tables.{Tables}
-use Rattle.lookup_scan.specs.declared.Hit.TheVariants as hit
+use Rattle.std.specs.Prelude.{Some, None, Ok, Err}
 use Rattle.lookup_slots.specs.Hash.{hash_from}
 use Rattle.lookup_slots.specs.Used.{used}
 use Rattle.lookup_slots.specs.Slots.{first, place, built}
-use Rattle.lookup_index.specs.Index.{key_at, index, indexed, sought_in, building, leaves, number}
-use Rattle.lookup_index.specs.declared.Sought.TheVariants as sought
-use Rattle.lookup_index.specs.declared.Building.TheVariants as went
+use Rattle.lookup_index.specs.Index.{too_few, key_at, index, indexed, sought_in, building, leaves, number}
 
 abbrev file_f : List ℕ
 file_f =
@@ -24,7 +22,7 @@ abbrev tables : ℕ → ℕ → Tables
 tables length count = record { length = length; big = false; count = count; originals = 28; translations = 36 }
 
 -- one entry uses two slots, a third stays; an index that has no cell goes nowhere
-pub slots_of_f : leaves file_f (tables 48 1) (7 ∷ 7 ∷ 7 ∷ []) went.Built ≡ 1 ∷ 0 ∷ 7 ∷ []
+pub slots_of_f : leaves file_f (tables 48 1) (7 ∷ 7 ∷ 7 ∷ []) (Ok tt) ≡ 1 ∷ 0 ∷ 7 ∷ []
 unfolding index built place first key_at used hash_from same entry string word id_start id_end front
 slots_of_f = refl
 
@@ -33,19 +31,19 @@ unfolding index built place first key_at used hash_from same entry string word i
 two_in_f = refl
 
 -- found, not found, passed by above the count, too few
-pub found_in_f : sought_in file_f (tables 48 1) (1 ∷ 0 ∷ 7 ∷ []) (bytes "a") ≡ sought.Found (hit.At 0 46 1)
+pub found_in_f : sought_in file_f (tables 48 1) (1 ∷ 0 ∷ 7 ∷ []) (bytes "a") ≡ Ok (Some (record { entry = 0; start = 46; len = 1 }))
 unfolding sought_in indexed place first key_at used hash_from same entry string word id_start id_end front
 found_in_f = refl
 
-pub passed_in_f : sought_in file_f (tables 48 1) (2 ∷ 1 ∷ []) (bytes "a") ≡ sought.Found (hit.At 0 46 1)
+pub passed_in_f : sought_in file_f (tables 48 1) (2 ∷ 1 ∷ []) (bytes "a") ≡ Ok (Some (record { entry = 0; start = 46; len = 1 }))
 unfolding sought_in indexed place first key_at used hash_from same entry string word id_start id_end front
 passed_in_f = refl
 
-pub none_in_f : sought_in file_f (tables 48 1) (0 ∷ 1 ∷ []) (bytes "a") ≡ sought.Found hit.Missing
+pub none_in_f : sought_in file_f (tables 48 1) (0 ∷ 1 ∷ []) (bytes "a") ≡ Ok None
 unfolding sought_in indexed place first key_at used hash_from same entry string word id_start id_end front
 none_in_f = refl
 
-pub few_in_f : sought_in file_f (tables 48 1) (1 ∷ []) (bytes "a") ≡ sought.TooFew
+pub few_in_f : sought_in file_f (tables 48 1) (1 ∷ []) (bytes "a") ≡ Err too_few
 unfolding sought_in used
 few_in_f = refl
 

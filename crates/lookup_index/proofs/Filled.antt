@@ -1,52 +1,23 @@
 -- Slots cleared and filled, as the code meets them. Assumes nothing.
 use Prim.Native.Nat.{ℕ, suc, ◌+◌, ◌<◌, ◌≤◌}
 use mathlib.Core.Path.{◌≡◌, refl, sym, ap, ◌∙◌}
-use mathlib.Core.List.{List, [], ◌∷◌, ◌++◌, append_assoc, append-nil}
-use mathlib.Core.Option.{Option, some}
+use mathlib.Core.List.{List}
+use Rattle.std.specs.Prelude.{Option, Some}
 use native.Mathlib.Omega.{arith}
 use native.Mathlib.Numerals.{add-one}
-use lib.ListN.{length, get_or, set, drop, length-set, length-replicate, replicate-append-replicate}
-use lib.Seq.{set_at, set_out}
-use Rattle.text.proofs.Walk.{rest_at, rest_end}
+use lib.ListN.{length, set, length-replicate}
+use lib.Seq.{set_out}
 use Rattle.container_layout.specs.declared.Tables.{Tables}
 use Rattle.lookup_slots.specs.Slots.{place, insert, zeros, built}
 use Rattle.lookup_slots.proofs.Built.{insert_length}
 use Rattle.lookup_index.specs.Index.{key_at}
-
--- the first i slots are cleared
-pub record Cleared (before now : List ℕ) (i : ℕ) : Type 0 where
-  pub upto : i ≤ length before
-  pub is : now ≡ zeros i ++ drop i before
-  pub long : length now ≡ length before
-
-module _ (b : List ℕ) where
-  pub cleared_first : Cleared b b 0
-  cleared_first = record { upto = omega arith; is = refl; long = refl }
-
-  pub cleared_more : {n : List ℕ} (i : ℕ) → Cleared b n i → i < length n → Cleared b (set n i 0) (i + 1)
-  cleared_more {n} i w h =
-      let l : i < length b = omega (arith, w.long) in
-      record {
-        upto = omega arith;
-        is =
-            ap (λ (x : List ℕ). set x i 0) (w.is ∙ ap (λ (x : List ℕ). zeros i ++ x) (rest_at b i l))
-            ∙ set_at (zeros i) (get_or b i 0) (drop (i + 1) b) 0 i (length-replicate {A = ℕ} i 0)
-            ∙ sym (append_assoc (zeros i) (0 ∷ []) (drop (i + 1) b))
-            ∙ ap (λ (x : List ℕ). x ++ drop (i + 1) b) (replicate-append-replicate {A = ℕ} i 1 0);
-        long = length-set n i 0 ∙ w.long;
-      }
-
-  pub cleared_end : {n : List ℕ} (i : ℕ) → Cleared b n i → length n ≤ i → n ≡ zeros (length b)
-  cleared_end {n} i w h =
-      let z : i ≡ length b = omega (arith, w.long, w.upto) in
-      w.is ∙ rw (rest_end b i (omega arith), append-nil) (ap zeros z)
 
 -- entry i goes in, by its key
 module _ (s : List ℕ) (t : Tables) (i : ℕ) (slots : List ℕ) where
   pub put_key : {o : Option (List ℕ)} → key_at s t i ≡ o → insert (key_at s t) i o slots ≡ insert (key_at s t) i (key_at s t i) slots
   put_key e = ap (λ (o : Option (List ℕ)). insert (key_at s t) i o slots) (sym e)
 
-  module _ {key : List ℕ} {p : ℕ} (e : key_at s t i ≡ some key) (g : p ≡ place (key_at s t) key slots) where
+  module _ {key : List ℕ} {p : ℕ} (e : key_at s t i ≡ Some key) (g : p ≡ place (key_at s t) key slots) where
     pub put_at : {v : ℕ} → v ≡ i + 1 → set slots p v ≡ insert (key_at s t) i (key_at s t i) slots
     put_at {v} h = let z : v ≡ suc i = h ∙ add-one i in rw (g, z) (put_key e)
 

@@ -15,7 +15,7 @@ use Rattle.lookup_index.proofs.find.Kinds as find-kinds
 use Rattle.lookup_index.proofs.number_of.Reads as number_of_lem
 use Rattle.lookup_index.proofs.number_of.Kinds as number-of-kinds
 
-pub find_one_lem : One 4 find-kinds.ps find-kinds.r find.Post
+pub find_one_lem : One 3 find-kinds.ps find-kinds.r find.Post
 find_one_lem κs a u v x y p q = p ∙ sym q
 
 pub number_of_one : One 0 number-of-kinds.ps number-of-kinds.r number_of_lem.Post

@@ -131,14 +131,8 @@ module _ (o : List ℕ) (n : ℕ) where
   ended key e d = rw e d
 
   -- without a context
-  module _ (c i : List ℕ) (given : Bool) (z : given ≡ false) where
-    own : key_of given c i ≡ i
-    own = rw z
-
-    pub own_length : Ending o n (key_of given c i) → n ≡ length i
-    own_length g = g.size ∙ ap length own
-
-    pub other_first : 0 < n → (get_or o 0 0 ≡ get_or i 0 0 → ⊥) → false ≡ has_key o n (key_of given c i)
+  module _ (i key : List ℕ) (own : key ≡ i) where
+    pub other_first : 0 < n → (get_or o 0 0 ≡ get_or i 0 0 → ⊥) → false ≡ has_key o n key
     unfolding has_key
     other_first l h =
         let e : same i (take n o) ≡ false =
@@ -146,12 +140,12 @@ module _ (o : List ℕ) (n : ℕ) where
         in
         rw (own, e)
 
-    pub any_alone : {r : Bool} → r ≡ has_from o n 0 i → r ≡ has_key o n (key_of given c i)
+    pub any_alone : {r : Bool} → r ≡ has_from o n 0 i → r ≡ has_key o n key
     unfolding has_from has_key
     any_alone f = let e : n - 0 ≡ n = omega arith in f ∙ rw (own, e)
 
-    pub plain_alone : {k : ℕ} {r : Bool} → Ending o n (key_of given c i) → r ≡ (same i (take n o) && all (within (5, 0xFF)) i) → r ≡ true → k ≡ n + 1 + place 4 (drop (n + 1) o)
-        → eqb k (length o) ≡ has_key o n (key_of given c i)
+    pub plain_alone : {k : ℕ} {r : Bool} → Ending o n key → r ≡ (same i (take n o) && all (within (5, 0xFF)) i) → r ≡ true → k ≡ n + 1 + place 4 (drop (n + 1) o)
+        → eqb k (length o) ≡ has_key o n key
     plain_alone g f h d =
         let e : same i (take n o) ≡ true = and_left (same i (take n o)) (all (within (5, 0xFF)) i) (sym f ∙ h) in
         let u : all (within (5, 0xFF)) i ≡ true = and_right (same i (take n o)) (all (within (5, 0xFF)) i) (sym f ∙ h) in

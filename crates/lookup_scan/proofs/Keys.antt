@@ -1,5 +1,5 @@
 -- A key that is context, byte 4 and id, compared where it lies. Assumes nothing.
-use Prim.Native.Nat.{ℕ, ◌+◌, ◌-◌, ◌<◌, ◌≤◌}
+use Prim.Native.Nat.{ℕ, ◌+◌, ◌<◌, ◌≤◌}
 use mathlib.Core.Path.{◌≡◌, refl, sym, ap, ◌∙◌}
 use mathlib.Core.Bool.{Bool, true, false, ◌&&◌}
 use mathlib.Core.List.{List, [], ◌∷◌, ◌++◌}
@@ -11,11 +11,12 @@ use borrow.Author.Tests.{ne_eqb}
 use Rattle.text.specs.Bytes.{same}
 use Rattle.text.proofs.Tests.{never, and_none, and_assoc}
 use Rattle.text.proofs.Same.{other_length}
-use Rattle.lookup_scan.specs.Keys.{key_of}
+use Rattle.lookup_scan.specs.Keys.{key_of, bytes_in, bytes_of}
 use Rattle.lookup_scan.specs.Promise.{Sized}
 use Rattle.lookup_scan.specs.Private.{InContext}
-use Rattle.lookup_scan.specs.declared.Size.{Size}
-use Rattle.lookup_scan.specs.declared.Size.TheVariants.{Is, TooLong}
+use Rattle.lookup_scan.specs.declared.Key.{Key}
+use Rattle.std.specs.Prelude.{Option, Some, None}
+use Rattle.std.specs.Borrow.{Bor}
 
 same_split : (c i key : List ℕ) → length c < length key
     → same (c ++ 4 ∷ i) key ≡ (same c (take (length c) key) && (eqb 4 (get_or key (length c) 0) && same i (drop (length c + 1) key)))
@@ -45,23 +46,16 @@ module _ (c key : List ℕ) where
     pub by_context : {r : Bool} → get_or key (length c) 0 ≡ 4 → r ≡ same c (take (length c) key) → InContext c key r
     by_context f e = record { inside = λ g. h; is = λ g i. same_split c i key h ∙ rw (← e, g, f); no = λ g i. same_split c i key h ∙ rw (← e, g) }
 
+-- a key with a context, and one without
+pub with_context : (k : Key) {c : Bor (List ℕ)} → k.context ≡ Some c → bytes_of k ≡ key_of true c.now k.id.now
+with_context k e = ap (λ (o : Option (Bor (List ℕ))). bytes_in o k.id.now) e
+
+pub without_context : (k : Key) → k.context ≡ None → bytes_of k ≡ k.id.now
+without_context k e = ap (λ (o : Option (Bor (List ℕ))). bytes_in o k.id.now) e
+
 -- the length of a key, in a file of that size
-module _ (size : ℕ) (c i : List ℕ) where
-  pub id_long : (given : Bool) → size ≤ length i → Sized size (key_of given c i) TooLong
-  id_long true h = record { sizes = omega (arith, length-append c (4 ∷ i)) }
-  id_long false h = record { sizes = h }
-
-  pub id_only : (given : Bool) → given ≡ false → length i < size → Sized size (key_of given c i) (Is (length i))
-  id_only given e h = rw e (record { sizes = (refl, h) })
-
-  pub both_long : (given : Bool) → given ≡ true → length i < size → size - length i - 1 ≤ length c → Sized size (key_of given c i) TooLong
-  both_long given e h k = rw e (record { sizes = omega (arith, length-append c (4 ∷ i)) })
-
-  pub both_fit : (given : Bool) → given ≡ true → length i < size → length c < size - length i - 1 → Sized size (key_of given c i) (Is (length c + 1 + length i))
-  both_fit given e h k = rw e (record { sizes = (omega (arith, length-append c (4 ∷ i)), omega arith) })
-
-pub sized_is : {size : ℕ} {r : Size} {n : ℕ} (key : List ℕ) → Sized size key r → r ≡ Is n → n ≡ length key
+pub sized_is : {size : ℕ} {r : Option ℕ} {n : ℕ} (key : List ℕ) → Sized size key r → r ≡ Some n → n ≡ length key
 sized_is {size} key q e = let z = rw e at q.sizes in z.0
 
-pub sized_long : {size : ℕ} {r : Size} (key : List ℕ) → Sized size key r → r ≡ TooLong → size ≤ length key
+pub sized_long : {size : ℕ} {r : Option ℕ} (key : List ℕ) → Sized size key r → r ≡ None → size ≤ length key
 sized_long key q e = rw e at q.sizes

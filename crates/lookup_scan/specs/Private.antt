@@ -1,15 +1,10 @@
 -- What the functions behind the public ones promise.
-use Rattle.std.specs.Prelude.{ℕ, ◌+◌, ◌-◌, ◌<◌, ◌≤◌, ◌≡◌, Bool, true, false, ◌&&◌, List, length, get_or, take, drop, eqb, leb}
+use Rattle.std.specs.Prelude.{ℕ, ◌+◌, ◌-◌, ◌<◌, ◌≤◌, ◌≡◌, Bool, true, false, ◌&&◌, List, length, get_or, take, drop, eqb, leb, Some}
 use Rattle.text.specs.Bytes.{same}
 use Rattle.lookup_scan.specs.Keys.{key_of, is_key}
 use Rattle.container_layout.specs.Mo.{has_cell, string, entry, id_end}
-use Rattle.text.specs.declared.Stretch.TheVariants as stretch
+use Rattle.text.specs.declared.Stretch.{Stretch}
 use Rattle.container_layout.specs.declared.Tables.{Tables}
-
-pub record Lesser (a b r : ℕ) : Type 0 where
-  pub first : r ≤ a
-  pub second : r ≤ b
-  pub is : a ≤ b → r ≡ a
 
 -- a string of so many bytes at a place has at least n, and a NUL after n of them
 abbrev pub ends_after : List ℕ → ℕ → ℕ → ℕ → Bool
@@ -25,10 +20,10 @@ pub record ScanFrom (s : List ℕ) (t : Tables) (r : ℕ) : Type 0 where
   pub outside : (i : ℕ) → r ≤ i → i < t.count → has_cell s t.originals i ≡ false
 
 -- the original of entry i lies at a place, and has a NUL after n bytes
-pub record Starts (s : List ℕ) (t : Tables) (i at len n : ℕ) : Type 0 where
-  pub original : string t.big s t.originals i ≡ stretch.At at len
-  pub long : n ≤ len
-  pub nul : get_or s (at + n) 0 ≡ 0
+pub record Starts (s : List ℕ) (t : Tables) (i : ℕ) (o : Stretch) (n : ℕ) : Type 0 where
+  pub original : string t.big s t.originals i ≡ Some o
+  pub long : n ≤ o.len
+  pub nul : get_or s (o.start + n) 0 ≡ 0
 
 -- an original with the byte after it, and a NUL where the key would end
 pub record Ending (o : List ℕ) (n : ℕ) (key : List ℕ) : Type 0 where

@@ -3,7 +3,7 @@ use Prim.Native.Nat.{ℕ, zero, suc, ◌+◌, ◌%◌, ◌<◌, ◌≤◌}
 use mathlib.Core.Path.{◌≡◌, refl, sym, ap, ◌∙◌}
 use mathlib.Core.Bool.{Bool, true, false}
 use mathlib.Core.List.{List}
-use mathlib.Core.Option.{Option, none, some}
+use Rattle.std.specs.Prelude.{Option, Some, None}
 use native.Mathlib.Omega.{arith}
 use native.Mathlib.Nat.{mod-lt}
 use lib.ListN.{length, get_or, set, length-set, length-replicate, get_or-replicate, get_or-eq_default}
@@ -28,17 +28,13 @@ module _ (k : ℕ → Option (List ℕ)) where
   Holds key zero = ⊥
   Holds key (suc i) = has key (k i) ≡ true
 
-  stops_holds : (key : List ℕ) (x : ℕ) → Holds key x → stops k key x ≡ true
-  stops_holds key zero h = absurd h
-  stops_holds key (suc i) h = h
-
   pub holds_stops : (key : List ℕ) (x : ℕ) → stops k key x ≡ true → 0 < x → Holds key x
   holds_stops key zero h l = absurd (omega arith)
   holds_stops key (suc i) h l = h
 
   has_one : (c d : List ℕ) (o : Option (List ℕ)) → has c o ≡ true → has d o ≡ true → c ≡ d
-  has_one c d (some x) p q = same_true c x p ∙ sym (same_true d x q)
-  has_one c d none p q = absurd (never p)
+  has_one c d (Some x) p q = same_true c x p ∙ sym (same_true d x q)
+  has_one c d None p q = absurd (never p)
 
   holds_one : (c d : List ℕ) (x : ℕ) → Holds c x → Holds d x → c ≡ d
   holds_one c d zero p q = absurd p
@@ -82,7 +78,7 @@ module _ (k : ℕ → Option (List ℕ)) where
       reached (at d s) (length s) e.at (ap (stops k d) e.is) e.inside (hash d % length s) (mod-lt (hash d) (omega (arith, e.inside)))
 
   -- entry i goes in
-  module _ (s : List ℕ) (i : ℕ) (d : List ℕ) (e : k i ≡ some d) (b : place k d s < length s) where
+  module _ (s : List ℕ) (i : ℕ) (d : List ℕ) (e : k i ≡ Some d) (b : place k d s < length s) where
     abbrev q : ℕ
     q = place k d s
 
@@ -173,7 +169,7 @@ module _ (k : ℕ → Option (List ℕ)) where
       }
 
   -- what is no entry is passed over
-  passed_over : (s : List ℕ) (i : ℕ) → k i ≡ none → Stands s i → Stands s (suc i)
+  passed_over : (s : List ℕ) (i : ℕ) → k i ≡ None → Stands s i → Stands s (suc i)
   passed_over s i e w = record {
     answers = λ c. w.answers c ∙ sym (last_on c i (ap (has c) e));
     alone = w.alone;
@@ -181,8 +177,8 @@ module _ (k : ℕ → Option (List ℕ)) where
   }
 
   pub insert_length : (i : ℕ) (o : Option (List ℕ)) (s : List ℕ) → length (insert k i o s) ≡ length s
-  insert_length i (some d) s = length-set s _ (suc i)
-  insert_length i none s = refl
+  insert_length i (Some d) s = length-set s _ (suc i)
+  insert_length i None s = refl
 
   module _ (m : ℕ) where
     pub built_length : (i : ℕ) → length (built k m i) ≡ m
@@ -210,8 +206,8 @@ module _ (k : ℕ → Option (List ℕ)) where
     stands (suc i) h = by_key (k i) refl (stands i (omega arith))
       where
         by_key : (o : Option (List ℕ)) → k i ≡ o → Stands (built k m i) i → Stands (insert k i o (built k m i)) (suc i)
-        by_key (some d) e w = gone_in (built k m i) i d e (found d (built k m i) (omega (arith, w.room, built_length i))) w
-        by_key none e w = passed_over (built k m i) i e w
+        by_key (Some d) e w = gone_in (built k m i) i d e (found d (built k m i) (omega (arith, w.room, built_length i))) w
+        by_key None e w = passed_over (built k m i) i e w
 
     -- THE THEOREM: in the slots that the first n entries built, no more than the slots, every lookup answers as the scan
     pub walk_built : (n : ℕ) → n ≤ m → (key : List ℕ) → walk k key (built k m n) ≡ last k key n

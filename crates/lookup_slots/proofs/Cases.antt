@@ -2,7 +2,7 @@
 use Prim.Native.Nat.{ℕ}
 use mathlib.Core.Path.{◌≡◌, refl}
 use mathlib.Core.List.{List, [], ◌∷◌}
-use mathlib.Core.Option.{Option, none, some}
+use Rattle.std.specs.Prelude.{Option, Some, None}
 use lib.ListN.{get_or}
 use Rattle.text.specs.Bytes.{bytes, same}
 use Rattle.lookup_slots.specs.Hash.{hash, hash_from}
@@ -27,7 +27,7 @@ used_by_lem = refl
 
 -- entries b, j, none, b; the hashes of b, j and r all start at slot 7 of 8
 abbrev keys : ℕ → Option (List ℕ)
-keys i = get_or (some (bytes "b") ∷ some (bytes "j") ∷ none ∷ some (bytes "b") ∷ []) i none
+keys i = get_or (Some (bytes "b") ∷ Some (bytes "j") ∷ None ∷ Some (bytes "b") ∷ []) i None
 
 -- j goes round the end, and the second b takes over the slot of the first
 pub four_entries : built keys 8 4 ≡ 2 ∷ 0 ∷ 0 ∷ 0 ∷ 0 ∷ 0 ∷ 0 ∷ 4 ∷ []

@@ -21,11 +21,6 @@ module _ (f : ℕ → Bool) (m : ℕ) where
   unfolding first
   first_end p = refl
 
-pub next_less : (m p : ℕ) → p < m → next m p < m
-next_less m p h =
-    by_test (next m p < m) (eqb (p + 1) m) (λ e. rw (taken 0 (p + 1) e) (omega arith))
-    (λ e. rw (left 0 (p + 1) e) (let g : p + 1 ≡ m → ⊥ = eqb-false (p + 1) m e in omega arith))
-
 -- it passes the test, where there is one
 pub first_stops : (f : ℕ → Bool) (m n p : ℕ) → first f m n p < m → f (first f m n p) ≡ true
 first_stops f m zero p h = absurd (omega (arith, first_end f m p))

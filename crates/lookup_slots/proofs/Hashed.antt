@@ -19,9 +19,6 @@ pub record Hashed (start : ℕ) (s : List ℕ) (h i : ℕ) : Type 0 where
   pub small : h < 4294967296
   pub rest : hash_from start s ≡ hash_from h (drop i s)
 
-pub hashed_first : (start : ℕ) (s : List ℕ) → start < 4294967296 → Hashed start s start 0
-hashed_first start s l = record { inside = omega arith; small = l; rest = refl }
-
 module _ (start : ℕ) (s : List ℕ) {h i : ℕ} (w : Hashed start s h i) where
   pub hashed_more : {b : ℕ} → i < length s → b ≡ get_or s i 0 → Hashed start s ((h * 33 + b) % 4294967296) (i + 1)
   unfolding hash_from

@@ -5,10 +5,18 @@ use mathlib.Core.List.{List}
 use native.Mathlib.Omega.{arith}
 use native.Mathlib.Nat.{add-zero, le_trans}
 use lib.ListN.{get_or}
-use lib.Dec.{leb}
-use borrow.Author.Tests.{leb-true, le-leb}
-use Rattle.lookup_slots.specs.Private.{Plain, Lesser, Above, Lowers, IsPlain}
+use Rattle.std.specs.Prelude.{min}
+use Rattle.lookup_slots.specs.Private.{Plain, Above, Lowers}
 use Rattle.lookup_slots.specs.declared.Least.{Least}
+
+-- the lesser of two is at least a number exactly if both are
+pub record Lesser (a b r : ℕ) : Type 0 where
+  pub first : r ≤ a
+  pub second : r ≤ b
+  pub most : (k : ℕ) → k ≤ a → k ≤ b → k ≤ r
+
+pub lesser : (a b : ℕ) {r : ℕ} → r ≡ min a b → Lesser a b r
+lesser a b e = record { first = omega arith; second = omega arith; most = λ k l m. omega arith }
 
 -- before any byte
 pub high : Above (record { a = 255; b = 255; c = 255; d = 255; e = 255; f = 255; g = 255; h = 255 })
@@ -81,30 +89,3 @@ module _ (s : List ℕ) (i : ℕ) where
       h = h.most 5 u.h (p (i + 7) (omega arith) (omega arith));
     };
   }
-
--- the least of all eight
-pub is_plain : {z : Least} {ab cd ef gh p q r : ℕ} → Lesser z.a z.b ab → Lesser z.c z.d cd → Lesser ab cd p → Lesser z.e z.f ef
-    → Lesser z.g z.h gh → Lesser ef gh q → Lesser p q r → IsPlain z (leb 5 r)
-is_plain {r = r} ab cd p ef gh q w = record {
-  told = λ t.
-      let l = leb-true 5 r t in
-      let x = le_trans l w.first in
-      let y = le_trans l w.second in
-      let u = le_trans x p.first in
-      let v = le_trans x p.second in
-      let m = le_trans y q.first in
-      let n = le_trans y q.second in
-      record {
-        a = le_trans u ab.first;
-        b = le_trans u ab.second;
-        c = le_trans v cd.first;
-        d = le_trans v cd.second;
-        e = le_trans m ef.first;
-        f = le_trans m ef.second;
-        g = le_trans n gh.first;
-        h = le_trans n gh.second;
-      };
-  kept = λ u.
-      le-leb 5 r
-      (w.most 5 (p.most 5 (ab.most 5 u.a u.b) (cd.most 5 u.c u.d)) (q.most 5 (ef.most 5 u.e u.f) (gh.most 5 u.g u.h)));
-}

@@ -4,7 +4,7 @@ use mathlib.Core.Path.{◌≡◌, refl, sym, ◌∙◌}
 use mathlib.Core.Bool.{Bool}
 use mathlib.Core.List.{List, []}
 use native.Mathlib.Omega.{arith}
-use native.Mathlib.Nat.{add-zero, mod-mod, mul-le-mul}
+use native.Mathlib.Nat.{add-zero, mod-mod}
 use lib.ListN.{length, get_or, drop, length-drop}
 use lib.Seq.{get_or-drop, drop-drop}
 use lib.Dec.{leb}
@@ -65,12 +65,6 @@ first_turn {start} {s} {i} l h e p c w u v = record {
 
 word_drop : (s : List ℕ) (i : ℕ) → word_at (drop i s) 0 ≡ word_at s i
 word_drop s i = simp (get_or-drop, add-zero)
-
-pub turn_fits : {start : ℕ} {s : List ℕ} {h i factor cut x : ℕ} {least : Least} → Turn start s h i factor cut x least → h * factor < 18446744073709551616
-turn_fits {h = h} {factor = factor} t =
-    let z : h ≤ 4294967295 = omega (arith, t.small) in
-    let y : factor ≤ 4294967295 = omega (arith, t.power) in
-    omega (arith, mul-le-mul z y)
 
 module _ {start : ℕ} {s : List ℕ} {h i factor cut x y q : ℕ} {least : Least} (t : Turn start s h i factor cut x least) (bytes : (j : ℕ) → get_or s j 0 < 256)
     (y-is : y ≡ (x * 2 ^ cut) % 18446744073709551616) (p : Polys y q) where

@@ -29,11 +29,6 @@ pub record Polys (x r : ℕ) : Type 0 where
   pub is : {a b c d e f g h : ℕ} → a < 256 → b < 256 → c < 256 → d < 256 → e < 256 → f < 256 → g < 256 → h < 256 → x ≡ eight a b c d e f g h
       → r ≡ adds a b c d e f g h
 
-pub record Lesser (a b r : ℕ) : Type 0 where
-  pub first : r ≤ a
-  pub second : r ≤ b
-  pub most : (k : ℕ) → k ≤ a → k ≤ b → k ≤ r
-
 -- least bytes are all 5 or more
 pub record Above (z : Least) : Type 0 where
   pub a : 5 ≤ z.a

@@ -1,7 +1,6 @@
 -- Slots, as SPEC 10 has them. A slot is a number: 0 is empty, and i + 1 is entry i. What the entries are like is left open:
 -- `k i` is the key of entry i, or nothing where i is no entry.
-use Rattle.std.specs.Prelude.{ℕ, zero, suc, ◌+◌, ◌%◌, Bool, true, false, List, length, get_or, set, replicate, eqb}
-use Rattle.std.proofs.Math.Option.{Option, none, some}
+use Rattle.std.specs.Prelude.{ℕ, zero, suc, ◌+◌, ◌%◌, Bool, true, false, List, length, get_or, set, replicate, eqb, Option, Some, None}
 use Rattle.text.specs.Bytes.{same}
 use Rattle.lookup_slots.specs.Hash.{hash}
 
@@ -16,8 +15,8 @@ first f m (suc left) p = elim (f p) [ true ↦ p | false ↦ first f m left (nex
 
 -- an entry has the key
 abbrev pub has : List ℕ → Option (List ℕ) → Bool
-has key (some c) = same key c
-has key none = false
+has key (Some c) = same key c
+has key None = false
 
 -- a search for the key stops at an empty slot, and at an entry that has the key
 abbrev pub stops : (ℕ → Option (List ℕ)) → List ℕ → ℕ → Bool
@@ -31,8 +30,8 @@ place k key slots = first (λ p. stops k key (get_or slots p 0)) (length slots) 
 
 -- an entry goes in where the search for its key stops: into an empty slot, or that of an equal key, which it takes over
 abbrev pub insert : (ℕ → Option (List ℕ)) → ℕ → Option (List ℕ) → List ℕ → List ℕ
-insert k i (some key) slots = set slots (place k key slots) (suc i)
-insert k i none slots = slots
+insert k i (Some key) slots = set slots (place k key slots) (suc i)
+insert k i None slots = slots
 
 abbrev pub zeros : ℕ → List ℕ
 zeros m = replicate m 0

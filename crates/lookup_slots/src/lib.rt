@@ -5,14 +5,7 @@ ghost use Rattle.std.specs.Prelude.{◌≡◌, ◌+◌, ◌%◌, ◌^◌, ◌<�
 ghost use Rattle.text.specs.Bytes.{within, all};
 ghost use Rattle.lookup_slots.specs.Used.{used};
 ghost use Rattle.lookup_slots.specs.Promise.{Hashes, room_in};
-ghost use Rattle.lookup_slots.specs.Private.{word_at, Masks, Polys, Lesser, Lowers, IsPlain};
-
-// The slots that an index uses, or that fewer are lent.
-#[derive(Clone, Copy)]
-pub enum Room {
-    Uses(usize),
-    TooFew,
-}
+ghost use Rattle.lookup_slots.specs.Private.{word_at, Masks, Polys, Lowers, IsPlain};
 
 // The hash of a text, and whether the text has no byte below 5. The one who does not ask for the second does not pay for it: the compiler leaves it out.
 #[derive(Clone, Copy)]
@@ -21,22 +14,14 @@ pub struct Hash {
     pub plain: bool,
 }
 
-fn from_byte(b: u8) -> usize
-    ensures { (result ≡ b) × (result < 256) }
-{
-    b as usize
-}
-
 // The hash of the bytes after those whose hash is `start`, byte after byte.
 fn hash_bytes(start: usize, s: &[u8]) -> usize
     requires { start < 4294967296 }
     ensures { Hashes start s.now result }
 {
     let mut h = start;
-    let mut i = 0;
-    while i < s.len() {
-        h = (h * 33 + from_byte(s[i])) % 4294967296;
-        i += 1;
+    for &b in s {
+        h = (h * 33 + usize::from(b)) % 4294967296;
     }
     h
 }
@@ -46,14 +31,14 @@ fn word(s: &[u8], i: usize) -> usize
     requires { i + 8 ≤ length s.now }
     ensures { result ≡ word_at s.now i }
 {
-    from_byte(s[i])
-        + from_byte(s[i + 1]) * 256
-        + from_byte(s[i + 2]) * 65536
-        + from_byte(s[i + 3]) * 16777216
-        + from_byte(s[i + 4]) * 4294967296
-        + from_byte(s[i + 5]) * 1099511627776
-        + from_byte(s[i + 6]) * 281474976710656
-        + from_byte(s[i + 7]) * 72057594037927936
+    usize::from(s[i])
+        + usize::from(s[i + 1]) * 256
+        + usize::from(s[i + 2]) * 65536
+        + usize::from(s[i + 3]) * 16777216
+        + usize::from(s[i + 4]) * 4294967296
+        + usize::from(s[i + 5]) * 1099511627776
+        + usize::from(s[i + 6]) * 281474976710656
+        + usize::from(s[i + 7]) * 72057594037927936
 }
 
 // Of four pairs of bytes the first of each.
@@ -109,35 +94,29 @@ struct Least {
     h: u8,
 }
 
-fn lesser(a: u8, b: u8) -> u8
-    ensures { Lesser a b result }
-{
-    if b < a { b } else { a }
-}
-
 // The same with eight bytes more.
 fn least_at(z: Least, s: &[u8], i: usize) -> Least
     requires { i + 8 ≤ length s.now }
     ensures { Lowers z s.now i result }
 {
     Least {
-        a: lesser(z.a, s[i]),
-        b: lesser(z.b, s[i + 1]),
-        c: lesser(z.c, s[i + 2]),
-        d: lesser(z.d, s[i + 3]),
-        e: lesser(z.e, s[i + 4]),
-        f: lesser(z.f, s[i + 5]),
-        g: lesser(z.g, s[i + 6]),
-        h: lesser(z.h, s[i + 7]),
+        a: z.a.min(s[i]),
+        b: z.b.min(s[i + 1]),
+        c: z.c.min(s[i + 2]),
+        d: z.d.min(s[i + 3]),
+        e: z.e.min(s[i + 4]),
+        f: z.f.min(s[i + 5]),
+        g: z.g.min(s[i + 6]),
+        h: z.h.min(s[i + 7]),
     }
 }
 
 fn is_plain(z: Least) -> bool
     ensures { IsPlain z result }
 {
-    let p = lesser(lesser(z.a, z.b), lesser(z.c, z.d));
-    let q = lesser(lesser(z.e, z.f), lesser(z.g, z.h));
-    5 <= lesser(p, q)
+    let p = z.a.min(z.b).min(z.c.min(z.d));
+    let q = z.e.min(z.f).min(z.g.min(z.h));
+    5 <= p.min(q)
 }
 
 // The hash of the bytes after those whose hash is `start`, and whether all of them are 5 or more. The first one to eight bytes come first, so that whole words are
@@ -195,32 +174,21 @@ pub fn hash_from(start: usize, s: &[u8]) -> usize
     r.value
 }
 
-// The smallest power of two that is at least twice a count.
-fn used_of(count: usize) -> usize
-    requires { count < 4294967296 }
-    ensures { result ≡ used count }
-{
-    if count == 0 {
-        return 1;
-    }
-    let bits = 64 - usize::leading_zeros(2 * count - 1);
-    1 << bits
-}
-
-// The slots that an index of so many entries uses. Twice the largest count has 33 bits.
+// The slots that an index of so many entries uses: the smallest power of two that is at least twice as many. Twice the largest count has 33 bits.
 pub fn used_by(count: u32) -> usize
     ensures { result ≡ used count }
 {
-    used_of(count as usize)
+    let twice = 2 * count as usize;
+    twice.next_power_of_two()
 }
 
-// The same, where so many are lent.
-pub fn room_for(count: u32, lent: usize) -> Room
+// The same, unless fewer are lent.
+pub fn room_for(count: u32, lent: usize) -> Option<usize>
     ensures { result ≡ room_in count lent }
 {
     let size = used_by(count);
     if lent < size {
-        return Room::TooFew;
+        return None;
     }
-    Room::Uses(size)
+    Some(size)
 }

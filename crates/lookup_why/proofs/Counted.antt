@@ -1,35 +1,47 @@
 -- The segments of a translation, as a loop that counts them meets them; and what the count says. Assumes nothing.
 use Prim.Native.Nat.{ℕ, ◌+◌, ◌-◌, ◌<◌, ◌≤◌}
-use mathlib.Core.Path.{◌≡◌, sym, ap, ◌∙◌}
-use mathlib.Core.List.{List}
+use mathlib.Core.Path.{◌≡◌, refl, sym, ap, ◌∙◌}
+use mathlib.Core.Bool.{Bool, cond}
+use mathlib.Core.List.{List, [], ◌∷◌}
 use native.Mathlib.Omega.{arith}
 use native.Mathlib.Nat.{add-sub_cancel_left}
 use lib.ListN.{length, take, drop}
+use lib.Dec.{eqb}
 use borrow.Author.Tests.{le-leb, lt-leb}
-use Rattle.text.specs.Bytes.{place}
-use Rattle.text.specs.Cut.{cut}
-use Rattle.text.proofs.Tests.{taken, left}
-use Rattle.text.proofs.Cuts.{rest_last, rest_more}
+use Rattle.text.specs.Cut.{cut, onto}
+use Rattle.text.proofs.Tests.{taken, left, by_test}
+use Rattle.std.specs.Prelude.{count_by}
+use Rattle.std.proofs.lemmas.List.Recursion.{is_count_by}
+use Rattle.text.proofs.Cuts.{Pieces, cut_at, cut_on, cut_some}
 use Rattle.lookup_why.specs.Why.{stored}
 
--- count is one more than were passed, and at is after them
-module _ (t : List ℕ) where
-  pub record Counted (count at : ℕ) : Type 0 where
-    pub inside : at ≤ length t
-    pub sum : count + length (cut 0 (drop at t)) ≡ length (cut 0 t) + 1
-    pub few : count ≤ at + 1
+-- a translation has one segment more than NULs
+onto_one : (b : ℕ) {ps : List (List ℕ)} → Pieces ps → length (onto b ps) ≡ length ps
+onto_one b o = rw o.is refl
 
-  pub counted_first : Counted 1 0
-  counted_first = record { inside = omega arith; sum = omega arith; few = omega arith }
+some_piece : {ps : List (List ℕ)} → Pieces ps → 1 ≤ length ps
+some_piece o = rw o.is (omega arith)
 
-  module _ {count at end : ℕ} (e : end ≡ at + place 0 (drop at t)) (c : Counted count at) where
-    pub counted_all : length t ≤ end → count ≡ length (cut 0 t)
-    counted_all h = let l = ap length (rest_last 0 t at end e c.inside h) in omega (arith, c.sum)
+abbrev nul : ℕ → Bool
+nul b = eqb b 0
 
-    pub counted_on : end < length t → at ≤ end → Counted (count + 1) (end + 1)
-    counted_on h k =
-        let l = ap length (rest_more 0 t at end e h) in
-        record { inside = omega arith; sum = omega (arith, c.sum); few = omega (arith, c.few) }
+more : List ℕ → ℕ
+more t = length (cut 0 t) - 1
+
+one_more : (b : ℕ) (t : List ℕ) → more (b ∷ t) ≡ cond (nul b) (1 + more t) (more t)
+unfolding more
+one_more b t =
+    by_test (more (b ∷ t) ≡ cond (nul b) (1 + more t) (more t)) (nul b)
+    (λ e. rw (cut_at 0 b t e, e) (omega (arith, some_piece (cut_some 0 t))))
+    (λ e. rw (cut_on 0 b t e, e) (ap (λ (n : ℕ). n - 1) (onto_one b (cut_some 0 t))))
+
+none_more : more [] ≡ 0
+unfolding more cut
+none_more = refl
+
+pub cut_count : (t : List ℕ) → length (cut 0 t) ≡ count_by nul t + 1
+unfolding more
+cut_count t = omega (arith, is_count_by more nul none_more one_more t, some_piece (cut_some 0 t))
 
 module _ (s : List ℕ) (start len : ℕ) where
   pub none_stored : length s < start + len → 0 ≡ stored s start len

@@ -10,16 +10,15 @@ use lib.Dec.{eqb, leb}
 use borrow.Author.Tests.{leb-true}
 use Rattle.rules.specs.Pool.{Pool}
 use Rattle.rules.specs.Answer.{resolved_of}
-use Rattle.rules.specs.declared.Resolved.{Resolved}
-use Rattle.rules.specs.declared.Resolved.TheVariants as resolved
+use Rattle.rules.specs.declared.NoForm.{NoForm}
+use Rattle.rules.specs.declared.NoForm.TheVariants as no_form
 use Rattle.rules_zero.specs.Zero.{zero_at, traced, traced_of}
 use Rattle.container_layout.specs.Mo.{piece_at, segment, segments}
 use Rattle.container_layout.proofs.Forms.{segment_holds, segment_is}
 use Rattle.container_layout.specs.declared.Tables.{Tables}
 use Rattle.text.specs.declared.Stretch.{Stretch}
-use Rattle.text.specs.declared.Stretch.TheVariants as stretch
 use Rattle.lookup_scan.specs.declared.Hit.{Hit}
-use Rattle.lookup_scan.specs.declared.Hit.TheVariants as hit
+use Rattle.std.specs.Prelude.{Option, Some, None, Result, Ok, Err}
 use Rattle.lookup.specs.Lookup as lookup
 use Rattle.lookup.specs.Lookup.{plural, number}
 use Rattle.lookup.specs.Text.{plural_text}
@@ -29,20 +28,20 @@ use Rattle.lookup_why.specs.Why.{stored, by_segment, by_entry, by_rule, why, rea
 use Rattle.lookup_why.specs.declared.Why.{Why}
 use Rattle.lookup_why.specs.declared.Why.TheVariants.{StaleLength}
 
-same_segment : (i k form : ℕ) (x : Stretch) → reason_of (by_segment i k form x) ≡ lookup.by_segment i form x
-same_segment i k form (stretch.At start len) = refl
-same_segment i k form stretch.Absent = refl
+same_segment : (i k form : ℕ) (x : Option Stretch) → reason_of (by_segment i k form x) ≡ lookup.by_segment i form x
+same_segment i k form (Some p) = refl
+same_segment i k form None = refl
 
-same_entry : (s : List ℕ) (form : ℕ) (h : Hit) → reason_of (by_entry s form h) ≡ lookup.by_entry s form h
-same_entry s form (hit.At i start len) = same_segment i (stored s start len) form (segment s start len form)
-same_entry s form hit.Missing = refl
+same_entry : (s : List ℕ) (form : ℕ) (h : Option Hit) → reason_of (by_entry s form h) ≡ lookup.by_entry s form h
+same_entry s form (Some h) = same_segment h.entry (stored s h.start h.len) form (segment s h.start h.len form)
+same_entry s form None = refl
 
-same_rule : (s : List ℕ) (v : Resolved) (q : ℕ) (h : Hit) → reason_of (by_rule s (traced v q) h) ≡ lookup.by_rule s v h
-same_rule s (resolved.Form form) q h = same_entry s form h
-same_rule s resolved.ZeroModulus q h = refl
-same_rule s resolved.NoTree q h = refl
+same_rule : (s : List ℕ) (v : Result ℕ NoForm) (q : ℕ) (h : Option Hit) → reason_of (by_rule s (traced v q) h) ≡ lookup.by_rule s v h
+same_rule s (Ok form) q h = same_entry s form h
+same_rule s (Err no_form.ZeroModulus) q h = refl
+same_rule s (Err no_form.NoTree) q h = refl
 
-module _ (s : List ℕ) (t : Tables) (P : Pool) (nodes root n : ℕ) (h : Hit) where
+module _ (s : List ℕ) (t : Tables) (P : Pool) (nodes root n : ℕ) (h : Option Hit) where
   -- the reason of the lookup
   abbrev pub theirs : Reason
   theirs = plural s t (resolved_of P nodes root n) h
@@ -70,7 +69,7 @@ module _ (s : List ℕ) (t : Tables) (P : Pool) (nodes root n : ℕ) (h : Hit) w
   why_text = ap (plural_text n) why_true
 
 -- How many segments an entry stores: exactly the forms below have one.
-none_past : (at k : ℕ) (ps : List (List ℕ)) → length ps ≤ k → piece_at at k ps ≡ stretch.Absent
+none_past : (at k : ℕ) (ps : List (List ℕ)) → length ps ≤ k → piece_at at k ps ≡ None
 unfolding piece_at
 none_past at k [] h = refl
 none_past at zero (p ∷ ps) h = absurd (omega arith)
@@ -80,7 +79,7 @@ module _ (s : List ℕ) (start len form : ℕ) where
   pub record Segment : Type 0 where
     pub at : ℕ
     pub size : ℕ
-    pub is : segment s start len form ≡ stretch.At at size
+    pub is : segment s start len form ≡ Some (record { start = at; len = size })
 
   pub below_stored : form < stored s start len → Segment
   unfolding stored
@@ -93,11 +92,11 @@ module _ (s : List ℕ) (start len form : ℕ) where
           record { at = w.start; size = w.len; is = segment_is s start len d form ∙ w.is }
       go false e l = absurd (omega arith)
 
-  pub past_stored : stored s start len ≤ form → segment s start len form ≡ stretch.Absent
+  pub past_stored : stored s start len ≤ form → segment s start len form ≡ None
   unfolding stored segment
   past_stored h = go (leb (start + len) (length s)) h
     where
       go : (b : Bool) → elim b [ true ↦ length (segments s start len) | false ↦ 0 ] ≤ form
-          → ◌≡◌ {A = Stretch} (elim b [ true ↦ piece_at start form (segments s start len) | false ↦ stretch.Absent ]) stretch.Absent
+          → ◌≡◌ {A = Option Stretch} (elim b [ true ↦ piece_at start form (segments s start len) | false ↦ None ]) None
       go true l = none_past start form (segments s start len) l
       go false l = refl

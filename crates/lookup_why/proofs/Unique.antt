@@ -7,7 +7,7 @@ use Rattle.lookup_why.proofs.explain.Kinds as explain-kinds
 use Rattle.lookup_why.proofs.reason_of.Reads as reason-of
 use Rattle.lookup_why.proofs.reason_of.Kinds as reason-of-kinds
 
-pub explain_one : One 2 explain-kinds.ps explain-kinds.r explain.Post
+pub explain_one : One 3 explain-kinds.ps explain-kinds.r explain.Post
 explain_one κs a u v x y p q = p ∙ sym q
 
 pub reason_of_one : One 0 reason-of-kinds.ps reason-of-kinds.r reason-of.Post

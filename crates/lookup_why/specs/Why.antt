@@ -1,14 +1,12 @@
 -- Why a lookup with a count answers as it does: the first reason that holds. SPEC 9.7. `reason_of` makes it the lookup's own reason, by which
 -- its number and its text are told; proofs/True.antt: it is that reason.
-use Rattle.std.specs.Prelude.{ℕ, ◌+◌, true, false, List, length, leb, eqb}
-use Rattle.rules_zero.specs.declared.Traced.{Traced}
-use Rattle.rules_zero.specs.declared.Traced.TheVariants as traced
+use Rattle.std.specs.Prelude.{ℕ, ◌+◌, true, false, List, length, leb, eqb, Option, Some, None, Result, Ok, Err}
+use Rattle.rules_zero.specs.declared.Fault.{Fault}
+use Rattle.rules_zero.specs.declared.Fault.TheVariants as fault
 use Rattle.container_layout.specs.Mo.{segment, segments}
 use Rattle.container_layout.specs.declared.Tables.{Tables}
 use Rattle.text.specs.declared.Stretch.{Stretch}
-use Rattle.text.specs.declared.Stretch.TheVariants as stretch
 use Rattle.lookup_scan.specs.declared.Hit.{Hit}
-use Rattle.lookup_scan.specs.declared.Hit.TheVariants as hit
 use Rattle.lookup.specs.declared.Reason.{Reason}
 use Rattle.lookup.specs.declared.Reason.TheVariants as reason
 use Rattle.lookup_why.specs.declared.Why.{Why}
@@ -19,23 +17,23 @@ unfoldable pub stored : List ℕ → ℕ → ℕ → ℕ
 stored s start len = elim (leb (start + len) (length s)) [ true ↦ length (segments s start len) | false ↦ 0 ]
 
 -- the segment that a form names, of entry i, which stores k of them
-abbrev pub by_segment : ℕ → ℕ → ℕ → Stretch → Why
-by_segment i k form (stretch.At start len) = Answered i form start len
-by_segment i k form stretch.Absent = TooFewSegments i k form
+abbrev pub by_segment : ℕ → ℕ → ℕ → Option Stretch → Why
+by_segment i k form (Some p) = Answered i form p.start p.len
+by_segment i k form None = TooFewSegments i k form
 
 -- of the entry with the key, if there is one
-abbrev pub by_entry : List ℕ → ℕ → Hit → Why
-by_entry s form (hit.At i start len) = by_segment i (stored s start len) form (segment s start len form)
-by_entry s form hit.Missing = NoEntry
+abbrev pub by_entry : List ℕ → ℕ → Option Hit → Why
+by_entry s form (Some h) = by_segment h.entry (stored s h.start h.len) form (segment s h.start h.len form)
+by_entry s form None = NoEntry
 
 -- the rule is resolved before the key is sought
-abbrev pub by_rule : List ℕ → Traced → Hit → Why
-by_rule s (traced.Form form) h = by_entry s form h
-by_rule s (traced.ZeroDivisor node) h = ZeroDivisor node
-by_rule s traced.NoTree h = NoTree
+abbrev pub by_rule : List ℕ → Result ℕ Fault → Option Hit → Why
+by_rule s (Ok form) h = by_entry s form h
+by_rule s (Err (fault.ZeroDivisor node)) h = ZeroDivisor node
+by_rule s (Err fault.NoTree) h = NoTree
 
 -- and the length is tested before all
-unfoldable pub why : List ℕ → Tables → Traced → Hit → Why
+unfoldable pub why : List ℕ → Tables → Result ℕ Fault → Option Hit → Why
 why s t v h = elim (eqb (length s) t.length) [ true ↦ by_rule s v h | false ↦ StaleLength ]
 
 -- the lookup's reason

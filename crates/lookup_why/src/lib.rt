@@ -3,16 +3,16 @@
 
 ghost use Rattle.std.specs.Prelude.{◌≡◌, length};
 ghost use Rattle.text.specs.Cut.{cut};
-ghost use Rattle.rules.specs.Pool.{pool};
+ghost use Rattle.rules.specs.Pool.{pool_in};
 ghost use Rattle.rules_zero.specs.Zero.{traced_of};
-ghost use Rattle.lookup_scan.specs.Keys.{key_of, last_with};
+ghost use Rattle.lookup_scan.specs.Keys.{bytes_of, last_with};
 ghost use Rattle.lookup_why.specs.Why.{stored, by_entry, by_rule, why, reason_of};
 
 use container_layout::Tables;
 use lookup::Reason;
-use lookup_scan::Hit;
-use rules_zero::Traced;
-use text::Stretch;
+use lookup_scan::{Hit, Key};
+use rules::Rule;
+use rules_zero::Fault;
 
 // The first of these that holds: the file's length is not the record's; the rule's nodes are no tree; the rule divides by zero, at a node; no
 // entry has the key; the entry stores fewer segments than the form needs; the entry, the form, and the segment's start in the file and length.
@@ -30,16 +30,7 @@ pub enum Why {
 fn count_in(translation: &[u8]) -> usize
     ensures { result ≡ length (cut 0 translation.now) }
 {
-    let mut count = 1;
-    let mut at = 0;
-    loop {
-        let end = text::find_byte_from(translation, at, 0);
-        if translation.len() <= end {
-            return count;
-        }
-        count += 1;
-        at = end + 1;
-    }
+    translation.iter().filter(|b| **b == 0).count() + 1
 }
 
 // How many segments the translation at a place stores.
@@ -57,65 +48,52 @@ fn stored_at(file: &[u8], start: usize, len: usize) -> usize
 }
 
 // What follows from the entry with the key: the segment that a form names. Its place is counted from the file's first byte.
-fn by_entry(file: &[u8], hit: Hit, form: u64) -> Why
+fn by_entry(file: &[u8], hit: Option<Hit>, form: u64) -> Why
     ensures { result ≡ by_entry file.now form hit }
 {
-    let Hit::At(entry, start, len) = hit else {
+    let Some(found) = hit else {
         return Why::NoEntry;
     };
-    let segment = container_layout::segment_at(file, start, len, form);
-    let Stretch::At(at, n) = segment else {
-        return Why::TooFewSegments(entry, stored_at(file, start, len), form);
+    let Some(segment) = container_layout::segment_at(file, found.start, found.len, form) else {
+        return Why::TooFewSegments(found.entry, stored_at(file, found.start, found.len), form);
     };
-    Why::Answered(entry, form, at, n)
+    Why::Answered(found.entry, form, segment.start, segment.len)
 }
 
 // What follows from the rule's value, and where it is a form from the entry with the key.
-fn by_rule(file: &[u8], value: Traced, hit: Hit) -> Why
+fn by_rule(file: &[u8], value: Result<u64, Fault>, hit: Option<Hit>) -> Why
     ensures { result ≡ by_rule file.now value hit }
 {
     match value {
-        Traced::Form(form) => by_entry(file, hit, form),
-        Traced::ZeroDivisor(node) => Why::ZeroDivisor(node),
-        Traced::NoTree => Why::NoTree,
+        Ok(form) => by_entry(file, hit, form),
+        Err(Fault::ZeroDivisor(node)) => Why::ZeroDivisor(node),
+        Err(Fault::NoTree) => Why::NoTree,
     }
 }
 
 // Why `lookup::nfind` of the same answers as it does.
-pub fn explain<'a, 'b>(
-    file: &'a [u8],
-    t: Tables,
-    codes: &'b [u8; 512],
-    places: &'b [u16; 1024],
-    values: &'b [u64; 512],
-    nodes: usize,
-    root: usize,
-    given: bool,
-    context: &'a [u8],
-    id: &'a [u8],
-    n: u64,
-) -> Why
-    ensures { result ≡ why file.now t (traced_of (pool codes.now places.now values.now) nodes root n)
-        (last_with file.now t (key_of given context.now id.now)) }
+pub fn explain(file: &[u8], t: Tables, rule: Rule<'_>, key: Key<'_>, n: u64) -> Why
+    ensures { result ≡ why file.now t (traced_of (pool_in rule.entry.nodes) rule.entry.count rule.entry.root n)
+        (last_with file.now t (bytes_of key.entry)) }
 {
     if t.length != file.len() {
         return Why::StaleLength;
     }
-    let value = rules_zero::trace(codes, places, values, nodes, root, n);
-    let hit = lookup_scan::last_hit(file, t, given, context, id);
+    let value = rules_zero::trace(rule, n);
+    let hit = lookup_scan::last_hit(file, t, key);
     by_rule(file, value, hit)
 }
 
-// The lookup's own reason.
+// The lookup's own reason. A function with a name and no `From`, since a host asks for it by that name.
 pub fn reason_of(why: Why) -> Reason
     ensures { result ≡ reason_of why }
 {
     match why {
         Why::StaleLength => Reason::StaleLength,
         Why::NoTree => Reason::NoTree,
-        Why::ZeroDivisor(node) => Reason::ZeroModulus,
+        Why::ZeroDivisor(_) => Reason::ZeroModulus,
         Why::NoEntry => Reason::NoEntry,
-        Why::TooFewSegments(entry, stored, form) => Reason::TooFewSegments(entry),
+        Why::TooFewSegments(entry, _, _) => Reason::TooFewSegments(entry),
         Why::Answered(entry, form, start, len) => Reason::Answered(entry, form, start, len),
     }
 }

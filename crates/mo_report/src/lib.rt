@@ -7,20 +7,36 @@ ghost use Rattle.mo_report.specs.Report.{report_of};
 
 use container::Options;
 use reading_rule::Reading;
-use refusal::{Outcome, Refusal, Side, Where};
-use rules::Rated;
-use std::io;
+use refusal::Refusal;
+use rules::{NoTree, Nodes, Rule};
 use std::io::{Read, Write};
+use std::{fmt, io};
 
-// The count and the range, or why and where the file is refused.
+// How many entries a catalog has, and the range of its rule.
 #[derive(Clone, Copy)]
-pub enum Said {
-    Entries(u32, Rated),
-    Refused(Refusal),
+pub struct Said {
+    pub entries: u32,
+    pub range: Result<Option<(u64, u64)>, NoTree>,
 }
 
-// What is said of a file: no rule and no UTF-8 is forced, and rules are read the Shipped way.
-pub fn report(file: &[u8]) -> Said
+// A line for each. A rule that is no tree, as no loaded one is, has no range either.
+impl fmt::Display for Said {
+    ghost use Rattle.std.specs.Prelude.{Some};
+    ghost use Rattle.mo_report.specs.Report.{said_text};
+
+    ghost output = { λ said. Some (said_text said) };
+
+    fn fmt<W: fmt::Write>(&self, f: &mut fmt::Formatter<W>) -> fmt::Result {
+        let entries = self.entries;
+        match self.range {
+            Ok(Some((lowest, highest))) => write!(f, "entries {entries}\nrule {lowest} {highest}"),
+            _ => write!(f, "entries {entries}\nrule unrated"),
+        }
+    }
+}
+
+// What is said of a file, or why and where it is refused: no rule and no UTF-8 is forced, and rules are read the Shipped way.
+pub fn report(file: &[u8]) -> Result<Said, Refusal>
     ensures { result ≡ report_of file.now }
 {
     let options = Options {
@@ -33,62 +49,27 @@ pub fn report(file: &[u8]) -> Said
     let mut places = [0u16; 1024];
     let mut values = [0u64; 512];
     let loading = container::load_into(file, file, options, &mut codes, &mut places, &mut values);
-    let outcome = loading.outcome;
-    match outcome {
-        Outcome::Loaded => {
-            let nodes = loading.nodes;
-            let tables = loading.tables;
-            let rated = rules_range::rating_of(&codes, &places, &values, nodes, nodes - 1);
-            Said::Entries(tables.count, rated)
-        }
-        Outcome::Refused(e) => Said::Refused(e),
-    }
+    loading.outcome?;
+    let nodes = Nodes {
+        codes: &codes,
+        places: &places,
+        values: &values,
+    };
+    let range = rules_range::rating_of(Rule {
+        nodes,
+        count: loading.nodes,
+        root: loading.nodes - 1,
+    });
+    Ok(Said {
+        entries: loading.tables.count,
+        range,
+    })
 }
 
-fn show_rule<W: Write>(out: &mut W, rated: Rated) -> io::Result<()> {
-    match rated {
-        Rated::Range(lo, hi) => writeln!(out, "rule {lo} {hi}"),
-        Rated::Unrated => writeln!(out, "rule unrated"),
-        // a record that was loaded holds a tree
-        Rated::NoTree => writeln!(out, "rule unrated"),
-    }
-}
-
-fn show_side<W: Write>(out: &mut W, side: Side) -> io::Result<()> {
-    match side {
-        Side::Original => write!(out, " original"),
-        Side::Translation => write!(out, " translation"),
-        Side::Header => write!(out, " header"),
-        Side::Rule => write!(out, " rule"),
-    }
-}
-
-// The entry's index and the side, as far as they are named.
-fn show_place<W: Write>(out: &mut W, place: Where) -> io::Result<()> {
-    match place {
-        Where::File => Ok(()),
-        Where::Forced => show_side(out, Side::Rule),
-        Where::Entry(i, side) => {
-            write!(out, " {i}")?;
-            show_side(out, side)
-        }
-    }
-}
-
-fn show_refusal<W: Write>(out: &mut W, refusal: Refusal) -> io::Result<()> {
-    let number = refusal::number_of(refusal::error_of(refusal));
-    write!(out, "refused {number}")?;
-    show_place(out, refusal::place_of(refusal))?;
-    writeln!(out)
-}
-
-fn show<W: Write>(out: &mut W, said: Said) -> io::Result<()> {
+fn show<W: Write>(out: &mut W, said: Result<Said, Refusal>) -> io::Result<()> {
     match said {
-        Said::Entries(count, rated) => {
-            writeln!(out, "entries {count}")?;
-            show_rule(out, rated)
-        }
-        Said::Refused(refusal) => show_refusal(out, refusal),
+        Ok(said) => writeln!(out, "{said}"),
+        Err(refusal) => writeln!(out, "refused {refusal}"),
     }
 }
 

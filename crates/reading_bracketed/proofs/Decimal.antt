@@ -9,7 +9,7 @@ use lib.ListN.{length, length-append}
 use lib.Dec.{ltb}
 use borrow.Author.Tests.{ltb-true, ltb-false, lt-ltb, le-leb, ne_eqb}
 use Rattle.text.proofs.Tests.{by_test, taken, left}
-use Rattle.text_digits.specs.declared.Number.TheVariants.{Whole}
+use Rattle.std.specs.Prelude.{Some}
 use Rattle.text_digits.specs.Digits.{digit, digits_from, integer}
 use Rattle.rules_text.specs.Bracketed.{decimal, decimal_in}
 use Rattle.rules_text.proofs.Decimal.{split, decimal_short, decimal_long}
@@ -95,7 +95,7 @@ unfolding value digits_from
 shipped_digits a none = refl
 shipped_digits a (one {b} {s} h k d) = rw (is_digit b h k, digits_from) (shipped_digits (10 * a + (b - 48)) d)
 
-in_range : (v : ℕ) → v < 2 ^ 64 → digits_from [] v ≡ Whole v
+in_range : (v : ℕ) → v < 2 ^ 64 → digits_from [] v ≡ Some v
 unfolding digits_from
 in_range v h = taken _ _ (lt-ltb v (2 ^ 64) h)
 
@@ -103,5 +103,5 @@ unsigned : {b : ℕ} {s : List ℕ} → Digits (b ∷ s) → integer (b ∷ s) �
 unfolding integer
 unsigned (one {b} {s} h k d) = left _ _ (ne_eqb b 43 (λ e. omega arith)) ∙ left _ _ (ne_eqb (suc (length s)) 0 (λ e. omega arith))
 
-pub shipped_integer : {s : List ℕ} {v : ℕ} → Writes s v → v < 2 ^ 64 → integer s ≡ Whole v
+pub shipped_integer : {s : List ℕ} {v : ℕ} → Writes s v → v < 2 ^ 64 → integer s ≡ Some v
 shipped_integer {s} {v} w h = rw w.is (unsigned w.digits ∙ (shipped_digits 0 w.digits ∙ rw w.worth (in_range v h)))

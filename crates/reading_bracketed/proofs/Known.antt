@@ -7,8 +7,7 @@ use lib.ListN.{length, get_or, take, drop}
 use lib.Dec.{eqb, ltb}
 use Rattle.text.specs.Bytes.{all}
 use Rattle.text_trim.specs.Trim.{trim, six, white_space}
-use Rattle.text_digits.specs.declared.Number.{Number}
-use Rattle.text_digits.specs.declared.Number.TheVariants.{Whole, NoNumber}
+use Rattle.std.specs.Prelude.{Option, Some, None}
 use Rattle.text_digits.specs.Digits.{integer}
 use Rattle.refusal.specs.Places.{at}
 use Rattle.refusal.specs.declared.Where.{Where}
@@ -49,9 +48,9 @@ only_three nothing k l = nothing
 only_int : (s : List ℕ) → Only (read_int s)
 only_int s = go (integer s)
   where
-    go : (v : Number) → Only (or_n v s)
-    go (Whole v) = plain (int v) tt
-    go NoNumber = either (eqb (length (trim six s)) 1) (either (eqb (get_or (trim six s) 0 0) 110) (plain var tt) nothing) nothing
+    go : (v : Option ℕ) → Only (or_n v s)
+    go (Some v) = plain (int v) tt
+    go None = either (eqb (length (trim six s)) 1) (either (eqb (get_or (trim six s) 0 0) 110) (plain var tt) nothing) nothing
 
 -- the rows of the table are of document 01's operators
 abbrev Plain-kind : Kind → Type 0

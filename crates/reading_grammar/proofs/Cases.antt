@@ -5,11 +5,9 @@ use Prim.Native.Char.{code}
 use Prim.Native.String as Str
 use mathlib.Core.Path.{◌≡◌, refl}
 use mathlib.Core.List.{List, [], ◌∷◌, map}
-use mathlib.Core.Option.{Option, some, none as nothing}
+use Rattle.std.specs.Prelude.{Option, Some, None}
 use Rattle.rules.specs.Tree.{var, int, nay, bin, cond, cmp, and, or, rem, eq, ne, ge, le, gt, lt, Reading, tree, none}
 use Rattle.rules.specs.Value.{eval_tree, binary, negated, chosen, truth_v}
-use Rattle.rules.specs.declared.Value.{Value}
-use Rattle.rules.specs.declared.Value.TheVariants.{Is, ZeroModulus}
 use Rattle.reading_grammar.specs.Reading.{standard}
 
 -- the bytes of a text of ASCII
@@ -17,22 +15,22 @@ abbrev pub bytes : Str.String → List ℕ
 bytes Str.String.[] = []
 bytes (Str.String.◌∷◌ c s) = code c ∷ bytes s
 
-abbrev pub valued : Reading → ℕ → Option Value
-valued (tree t) n = some (eval_tree t n)
-valued none n = nothing
+abbrev pub valued : Reading → ℕ → Option (Option ℕ)
+valued (tree t) n = Some (eval_tree t n)
+valued none n = None
 
--- a text, a count, and the value there or no reading
-abbrev pub values : List (Str.String × ℕ × Option Value)
+-- a text, a count, and the value there, None where a divisor is zero; or no reading
+abbrev pub values : List (Str.String × ℕ × Option (Option ℕ))
 values =
-    ("!n%2", 4, some (Is 0))
-    ∷ ("!n==0", 4, some (Is 1))
-    ∷ ("n||n%n", 0, some ZeroModulus)
-    ∷ ("n&&n%n", 0, some (Is 0))
-    ∷ ("010", 0, some (Is 10))
-    ∷ ("n%10==1 && n%100!=11 ? 0 : n%10>=2 && n%10<=4 && (n%100<10 || n%100>=20) ? 1 : 2", 22, some (Is 1))
+    ("!n%2", 4, Some (Some 0))
+    ∷ ("!n==0", 4, Some (Some 1))
+    ∷ ("n||n%n", 0, Some None)
+    ∷ ("n&&n%n", 0, Some (Some 0))
+    ∷ ("010", 0, Some (Some 10))
+    ∷ ("n%10==1 && n%100!=11 ? 0 : n%10>=2 && n%10<=4 && (n%100<10 || n%100>=20) ? 1 : 2", 22, Some (Some 1))
     ∷ []
 
-pub values_hold : map (λ (c : Str.String × ℕ × Option Value). valued (standard (bytes c.0)) c.1) values ≡ map (λ (c : Str.String × ℕ × Option Value). c.2) values
+pub values_hold : map (λ (c : Str.String × ℕ × Option (Option ℕ)). valued (standard (bytes c.0)) c.1) values ≡ map (λ (c : Str.String × ℕ × Option (Option ℕ)). c.2) values
 unfolding standard eval_tree binary negated chosen truth_v
 values_hold = refl
 

@@ -1,6 +1,6 @@
 -- A test and its two branches: where the test is known, so is the branch.
 use mathlib.Core.Path.{◌≡◌, refl}
-use mathlib.Core.Bool.{Bool, true, false, ◌&&◌, and-false, false≢true}
+use mathlib.Core.Bool.{Bool, true, false, ◌&&◌, false≢true}
 
 pub taken_if : {A : Type 0} {b : Bool} (x y : A) → b ≡ true → elim b [ true ↦ x | false ↦ y ] ≡ x
 taken_if x y e = rw e
@@ -12,9 +12,3 @@ pub both : (x y : Bool) → (x && y) ≡ true → (x ≡ true) × (y ≡ true)
 both true true e = (refl, refl)
 both true false e = (refl, e)
 both false y e = (e, absurd (false≢true e))
-
-pub all_true : {x y : Bool} → x ≡ true → y ≡ true → (x && y) ≡ true
-all_true e f = rw (e, f)
-
-pub last_false : (x : Bool) {y : Bool} → y ≡ false → (x && y) ≡ false
-last_false x e = rw e (and-false x)

@@ -1,6 +1,6 @@
 -- The levels of the Shipped reading: `parse_and`, `parse_or`, .. `parse_mod` of the Rust's plurals.rs as rows of one table. Document 01,
 -- "Two readings of a rule".
-use Rattle.std.specs.Prelude.{ℕ, suc, Bool, true, false, List, [], ◌∷◌, length, get_or, ltb}
+use Rattle.std.specs.Prelude.{ℕ, suc, Bool, true, false, List, [], ◌∷◌, length, get_or, ltb, Option, Some, None}
 use Rattle.rules.specs.Tree.{Op, cmp, and, or, rem, eq, ne, ge, le, gt, lt}
 use Rattle.rules.specs.Pool.{ternary_node}
 use Rattle.rules.specs.Store.{node_code}
@@ -44,6 +44,10 @@ row_at l = get_or rows l (row [] (binary rem))
 unfoldable pub row_of : List Row → List ℕ → ℕ
 row_of [] s = 0
 row_of (r ∷ rs) s = elim (found r.pattern s) [ true ↦ 0 | false ↦ suc (row_of rs s) ]
+
+-- that row, if there is one
+abbrev pub row_in : List ℕ → Option ℕ
+row_in s = elim (ltb (row_of rows s) (length rows)) [ true ↦ Some (row_of rows s) | false ↦ None ]
 
 -- the code of the node that a row makes
 abbrev pub code_of : Kind → ℕ

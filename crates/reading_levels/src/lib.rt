@@ -3,27 +3,60 @@
 #![tactic(auto)]
 
 ghost use Rattle.std.specs.Prelude.{◌≡◌, ◌<◌, length};
-ghost use Rattle.reading_scan.specs.Scan.{index_of};
-ghost use Rattle.reading_levels.specs.Levels.{rows, row_at, row_of, code_of};
+ghost use Rattle.reading_scan.specs.Scan.{found_at};
+ghost use Rattle.reading_levels.specs.Levels.{row_at, row_in, code_of};
 
 use rules::node;
 
-// The levels in their order: two signs for each, how many of them count, and the code of the node.
-const SIGNS: [u8; 20] = *b"&&||?\0>=>\0<=<\0==!=%\0";
+// A level: the pattern that is sought, and the code of the node over what stands left and right of it.
+#[derive(Clone, Copy)]
+struct Row {
+    pattern: &'static [u8],
+    code: u8,
+}
 
-const WIDTHS: [usize; 10] = [2, 2, 1, 2, 1, 2, 1, 2, 2, 1];
-
-const CODES: [u8; 10] = [
-    node::OP + node::AND,
-    node::OP + node::OR,
-    node::TERNARY,
-    node::OP + node::GREATER_OR_EQUAL,
-    node::OP + node::GREATER,
-    node::OP + node::SMALLER_OR_EQUAL,
-    node::OP + node::SMALLER,
-    node::OP + node::EQUAL,
-    node::OP + node::NOT_EQUAL,
-    node::OP + node::MODULO,
+// The levels in their order.
+const ROWS: [Row; 10] = [
+    Row {
+        pattern: b"&&",
+        code: node::OP + node::AND,
+    },
+    Row {
+        pattern: b"||",
+        code: node::OP + node::OR,
+    },
+    Row {
+        pattern: b"?",
+        code: node::TERNARY,
+    },
+    Row {
+        pattern: b">=",
+        code: node::OP + node::GREATER_OR_EQUAL,
+    },
+    Row {
+        pattern: b">",
+        code: node::OP + node::GREATER,
+    },
+    Row {
+        pattern: b"<=",
+        code: node::OP + node::SMALLER_OR_EQUAL,
+    },
+    Row {
+        pattern: b"<",
+        code: node::OP + node::SMALLER,
+    },
+    Row {
+        pattern: b"==",
+        code: node::OP + node::EQUAL,
+    },
+    Row {
+        pattern: b"!=",
+        code: node::OP + node::NOT_EQUAL,
+    },
+    Row {
+        pattern: b"%",
+        code: node::OP + node::MODULO,
+    },
 ];
 
 // How many signs the pattern of a row has.
@@ -31,7 +64,7 @@ pub fn width_of(row: usize) -> usize
     requires { row < 10 }
     ensures { result ≡ length (row_at row).pattern }
 {
-    WIDTHS[row]
+    ROWS[row].pattern.len()
 }
 
 // The code of the node that a row makes.
@@ -39,30 +72,25 @@ pub fn code_of(row: usize) -> u8
     requires { row < 10 }
     ensures { result ≡ code_of (row_at row).kind }
 {
-    CODES[row]
+    ROWS[row].code
 }
 
-// Where a row's pattern stands, or the text's length.
-pub fn place_of(s: &[u8], row: usize) -> usize
+// Where a row's pattern stands.
+pub fn place_of(s: &[u8], row: usize) -> Option<usize>
     requires { row < 10 }
-    ensures { result ≡ index_of (row_at row).pattern s.now }
+    ensures { result ≡ found_at (row_at row).pattern s.now }
 {
-    let signs = SIGNS;
-    let start = 2 * row;
-    let end = start + width_of(row);
-    reading_scan::index_of(s, &signs[start..end])
+    reading_scan::index_of(s, ROWS[row].pattern)
 }
 
-// The first row whose pattern stands in the text, or the number of rows.
-pub fn row_of(s: &[u8]) -> usize
-    ensures { result ≡ row_of rows s.now }
+// The first row whose pattern stands in the text.
+pub fn row_of(s: &[u8]) -> Option<usize>
+    ensures { result ≡ row_in s.now }
 {
-    let mut row = 0;
-    while row < 10 {
-        if place_of(s, row) < s.len() {
-            return row;
+    for row in 0..ROWS.len() {
+        if place_of(s, row).is_some() {
+            return Some(row);
         }
-        row += 1;
     }
-    row
+    None
 }

@@ -2,13 +2,12 @@
 use Prim.Native.Nat.{ℕ}
 use mathlib.Core.Path.{◌≡◌, refl}
 use mathlib.Core.List.{List, [], ◌∷◌, map}
+use Rattle.std.specs.Prelude.{Option, Some, None}
 use Rattle.text.specs.Bytes.{bytes, all, begins}
 use Rattle.text_trim.specs.Trim.{trim, trim_start, trim_end, edge_after, lead, encode}
 use Rattle.refusal.specs.Numbers.{number_of}
 use Rattle.refusal.specs.declared.Where.TheVariants.{Forced}
 use Rattle.refusal.specs.declared.Error.TheVariants as error
-use Rattle.rules.specs.declared.Rating.{Rating}
-use Rattle.rules.specs.declared.Rating.TheVariants.{Range, Unrated}
 use Rattle.rules.specs.Value.{eval_tree, binary, calculated, negated, chosen, truth_v}
 use Rattle.rules.specs.Range.{rate_tree, kept, op_range, bin_range, cond_range, not_range}
 use Rattle.reading_grammar.specs.Reading.{standard}
@@ -59,34 +58,34 @@ pub values_hold : map (λ (r : List ℕ × ℕ × Answer). answer (parsed Forced
 unfolding parsed tested made trim trim_start trim_end edge_after lead encode begins all standard eval_tree binary calculated negated chosen truth_v
 values_hold = refl
 
-abbrev range_of : Parse → Rating
+abbrev range_of : Parse → Option (ℕ × ℕ)
 range_of (rule t) = rate_tree t
-range_of (norule e) = Unrated
+range_of (norule e) = None
 
-abbrev full : Rating
-full = Range 0 0xffffffffffffffff
+abbrev full : Option (ℕ × ℕ)
+full = Some (0, 0xffffffffffffffff)
 
-abbrev ranges : List (List ℕ × Rating)
+abbrev ranges : List (List ℕ × Option (ℕ × ℕ))
 ranges =
-    (bytes "(n+1)/2", Range 0 0x7fffffffffffffff)
+    (bytes "(n+1)/2", Some (0, 0x7fffffffffffffff))
     ∷ (bytes "18446744073709551615+1", full)
     ∷ (bytes "0-1", full)
     ∷ (bytes "n*2", full)
     ∷ (bytes "n-n", full)
-    ∷ (bytes "n*0", Range 0 0)
-    ∷ (bytes "n%10*3", Range 0 27)
-    ∷ (bytes "2*n%3", Range 0 2)
-    ∷ (bytes "1+n<3", Range 0 1)
-    ∷ (bytes "n%4*3", Range 0 9)
-    ∷ (bytes "n%4+3", Range 3 6)
-    ∷ (bytes "10-n%3-2", Range 6 8)
-    ∷ (bytes "10/(n%3+1)", Range 3 10)
-    ∷ (bytes "5/n", Unrated)
-    ∷ (bytes "0*(5/n)", Unrated)
-    ∷ (bytes "0*(1/0)", Unrated)
-    ∷ (bytes "n%(n+1)", Unrated)
+    ∷ (bytes "n*0", Some (0, 0))
+    ∷ (bytes "n%10*3", Some (0, 27))
+    ∷ (bytes "2*n%3", Some (0, 2))
+    ∷ (bytes "1+n<3", Some (0, 1))
+    ∷ (bytes "n%4*3", Some (0, 9))
+    ∷ (bytes "n%4+3", Some (3, 6))
+    ∷ (bytes "10-n%3-2", Some (6, 8))
+    ∷ (bytes "10/(n%3+1)", Some (3, 10))
+    ∷ (bytes "5/n", None)
+    ∷ (bytes "0*(5/n)", None)
+    ∷ (bytes "0*(1/0)", None)
+    ∷ (bytes "n%(n+1)", None)
     ∷ []
 
-pub ranges_hold : map (λ (r : List ℕ × Rating). range_of (parsed Forced Standard r.0)) ranges ≡ map (λ (r : List ℕ × Rating). r.1) ranges
+pub ranges_hold : map (λ (r : List ℕ × Option (ℕ × ℕ)). range_of (parsed Forced Standard r.0)) ranges ≡ map (λ (r : List ℕ × Option (ℕ × ℕ)). r.1) ranges
 unfolding parsed tested made trim trim_start trim_end edge_after lead encode begins all standard rate_tree kept op_range bin_range cond_range not_range
 ranges_hold = refl

@@ -4,10 +4,9 @@ use Prim.Native.Nat.{ℕ}
 use mathlib.Core.Path.{◌≡◌, refl}
 use mathlib.Core.List.{List, [], ◌∷◌, ◌++◌, map}
 use lib.ListN.{replicate}
+use Rattle.std.specs.Prelude.{Option, Some, None}
 use Rattle.text.specs.Bytes.{bytes, all, begins}
 use Rattle.text_trim.specs.Trim.{white_space, trim, trim_start, trim_end, edge_after, lead, encode}
-use Rattle.rules.specs.declared.Value.{Value}
-use Rattle.rules.specs.declared.Value.TheVariants.{Is, ZeroModulus}
 use Rattle.rules.specs.Value.{eval_tree, binary, negated, chosen, truth_v}
 use Rattle.reading_grammar.specs.Reading.{standard}
 use Rattle.text_digits.specs.Digits.{digits_from, integer}
@@ -24,9 +23,9 @@ pub data Answer : Type 0 where
   form : ℕ → Answer
   number : ℕ → Answer
 
-abbrev pub valued : Value → Answer
-valued (Is x) = form x
-valued ZeroModulus = number (number_of error.ZeroModulus)
+abbrev pub valued : Option ℕ → Answer
+valued (Some x) = form x
+valued None = number (number_of error.ZeroModulus)
 
 abbrev pub answer : Parse → ℕ → Answer
 answer (rule t) n = valued (eval_tree t n)

@@ -1,16 +1,16 @@
 -- The steps of the code against the definition: the bytes as a loop meets them, what a reader's answer says of the reading, and which
 -- case each test leaves. Assumes nothing.
-use Prim.Native.Nat.{ℕ, ◌+◌, ◌-◌, ◌<◌, ◌≤◌}
+use Prim.Native.Nat.{ℕ, ◌-◌, ◌≤◌}
 use mathlib.Core.Path.{◌≡◌, refl, sym, ap, ◌∙◌}
-use mathlib.Core.Bool.{Bool, true, false}
-use mathlib.Core.List.{List}
+use mathlib.Core.Bool.{Bool, true, false, ◌&&◌}
+use mathlib.Core.List.{List, [], ◌∷◌}
 use native.Mathlib.Omega.{arith}
-use borrow.Author.Tests.{lt-ltb, le-ltb}
-use lib.ListN.{length, get_or, drop}
+use lib.ListN.{length}
 use lib.Dec.{ltb}
+use Rattle.std.specs.Prelude.{Some, None, Result, Ok}
+use Rattle.std.specs.List.{list_all}
 use Rattle.text.specs.Bytes.{all}
 use Rattle.text_trim.specs.Trim.{trim, white_space}
-use Rattle.text.proofs.Walk.{rest_at, rest_end}
 use Rattle.rules.specs.Tree as tree
 use Rattle.rules.specs.Tree.{Tree}
 use Rattle.rules.specs.Pool.{Pool, tree_of}
@@ -20,44 +20,30 @@ use Rattle.rules.proofs.Packs.{no_more}
 use Rattle.rules.proofs.Unfolded.{size_pos, stored_tree, stored_plain}
 use Rattle.rules.specs.Store.{size, store, blank}
 use Rattle.rules.specs.Reads.{Answered}
-use Rattle.rules.specs.declared.Nodes.{Nodes}
-use Rattle.rules.specs.declared.Nodes.TheVariants.{Read, NoReading}
 use Rattle.reading_rule.specs.declared.Reading.{Reading}
-use Rattle.reading_rule.specs.declared.Parsed.{Parsed}
 use Rattle.refusal.specs.Places.{at}
 use Rattle.refusal.specs.declared.Where.{Where}
 use Rattle.refusal.specs.declared.Error.TheVariants.{PluralParsing, RuleTooLong}
-use Rattle.refusal.specs.declared.Outcome.TheVariants as outcome
+use Rattle.refusal.specs.declared.Refusal.{Refusal}
 use Rattle.reading_rule.specs.Plurals.{Parse, rule, norule, read_as, made, is_ascii, tested, parsed, Parses}
 
--- all bytes before i are below 128
-abbrev pub Passed : List ℕ → ℕ → Type 0
-Passed s i = all is_ascii s ≡ all is_ascii (drop i s)
+-- the test of all bytes, as std has it
+all_is : (s : List ℕ) → list_all is_ascii s ≡ all is_ascii s
+unfolding all
+all_is [] = refl
+all_is (b ∷ s) = ap (λ (x : Bool). is_ascii b && x) (all_is s)
 
-module _ (s : List ℕ) (i : ℕ) (e : Passed s i) where
-  pub ascii_more : i < length s → get_or s i 0 < 128 → Passed s (i + 1)
-  unfolding all
-  ascii_more h l = e ∙ rw (rest_at s i h, lt-ltb (get_or s i 0) 128 l)
+pub ascii_all : (s : List ℕ) {r : Bool} → r ≡ list_all is_ascii s → r ≡ all is_ascii s
+ascii_all s e = e ∙ all_is s
 
-  pub ascii_not : i < length s → 128 ≤ get_or s i 0 → false ≡ all is_ascii s
-  unfolding all
-  ascii_not h l = sym (e ∙ rw (rest_at s i h, le-ltb (get_or s i 0) 128 l))
-
-  pub ascii_end : length s ≤ i → true ≡ all is_ascii s
-  unfolding all
-  ascii_end h = sym (e ∙ rw (rest_end s i h))
-
-pub parses : {p q : Parse} {Q : Pool} {r : Parsed} → p ≡ q → Parses q Q r → Parses p Q r
+pub parses : {p q : Parse} {Q : Pool} {r : Result ℕ Refusal} → p ≡ q → Parses q Q r → Parses p Q r
 parses e h = rw e h
 
-pub answered : {o : tree.Reading} {s : List ℕ} {P Q : Pool} {q r : Nodes} → Answered o s P Q q → q ≡ r → Answered o s P Q r
-answered h e = rw e at h
-
 -- no reading was found
-pub none_made : (place : Where) (o : tree.Reading) {s : List ℕ} {P Q : Pool} → Answered o s P Q NoReading → made place o ≡ norule (at place PluralParsing)
+pub none_made : (place : Where) (o : tree.Reading) {s : List ℕ} {P Q : Pool} → Answered o s P Q None → made place o ≡ norule (at place PluralParsing)
 unfolding made
 none_made place (tree.tree t) a =
-    let e : NoReading ≡ Read (size t) = a.read.answer in
+    let e : None ≡ Some (size t) = a.read.answer in
     let z : ◌≡◌ {A = ℕ} 0 1 = cc in
     absurd (omega arith)
 none_made place tree.none a = refl
@@ -70,12 +56,12 @@ pub record Found (o : tree.Reading) (m k : ℕ) (P Q : Pool) : Type 0 where
   pub stored : Q ≡ store is_tree 0 P
   pub few : size is_tree ≤ m
 
-pub found : (o : tree.Reading) {s : List ℕ} {P Q : Pool} {k : ℕ} → Answered o s P Q (Read k) → Found o (length s) k P Q
+pub found : (o : tree.Reading) {s : List ℕ} {P Q : Pool} {k : ℕ} → Answered o s P Q (Some k) → Found o (length s) k P Q
 found (tree.tree t) {k = k} a =
-    let e : Read k ≡ Read (size t) = a.read.answer in
+    let e : Some k ≡ Some (size t) = a.read.answer in
     record { is_tree = t; is = refl; count = cc; stored = a.read.stored; few = a.read.fits }
 found tree.none {k = k} a =
-    let e : Read k ≡ NoReading = a.read in
+    let e : Some k ≡ None = a.read in
     let z : ◌≡◌ {A = ℕ} 0 1 = cc in
     absurd (omega arith)
 
@@ -100,11 +86,11 @@ module _ {o : tree.Reading} {m k : ℕ} {P Q : Pool} (f : Found o m k P Q) (b : 
   has_room = rw tree_in_lem (omega (arith, no_more f.is_tree, few))
 
   pub held : (place : Where) {R : Pool} {n : ℕ} → R ≡ packed (tree_of Q (k - 1)) → n ≡ packed_size (tree_of Q (k - 1))
-      → Parses (made place o) R (record { outcome = outcome.Loaded; nodes = n })
+      → Parses (made place o) R (Ok n)
   unfolding made
   held place e d =
       let i : made place o ≡ rule f.is_tree = rw f.is in
-      parses i (record { outcome = refl; nodes = d ∙ ap packed_size tree_in_lem; stored = e ∙ ap packed tree_in_lem })
+      parses i (record { outcome = ap Ok (d ∙ ap packed_size tree_in_lem); stored = e ∙ ap packed tree_in_lem })
 
 -- the tests, of the trimmed text t: a says whether all its bytes are below 128
 module _ (place : Where) (reading : Reading) (s : List ℕ) {t : List ℕ} (e : t ≡ trim white_space s) where

@@ -1,14 +1,12 @@
 -- SPEC 6 and 2; SPEC 1 and 5: what a text, trimmed of White_Space, is as a plural rule in a
 -- reading, a tree or a refusal, and what the caller's arrays then hold.
-use Rattle.std.specs.Prelude.{ℕ, ◌≡◌, Bool, true, false, List, length, ltb}
+use Rattle.std.specs.Prelude.{ℕ, ◌≡◌, Bool, true, false, List, length, ltb, Result, Ok, Err}
 use Rattle.text.specs.Bytes.{all}
 use Rattle.text_trim.specs.Trim.{trim, white_space}
 use Rattle.refusal.specs.Places.{at}
 use Rattle.refusal.specs.declared.Where.{Where}
 use Rattle.refusal.specs.declared.Refusal.{Refusal}
 use Rattle.refusal.specs.declared.Error.TheVariants.{PluralParsing, RuleTooLong}
-use Rattle.refusal.specs.declared.Outcome.{Outcome}
-use Rattle.refusal.specs.declared.Outcome.TheVariants as outcome
 use Rattle.rules.specs.Tree as tree
 use Rattle.rules.specs.Tree.{Tree, default_tree}
 use Rattle.rules.specs.Pool.{Pool}
@@ -17,7 +15,6 @@ use Rattle.reading_grammar.specs.Reading.{standard}
 use Rattle.reading_shipped.specs.Shipped.{shipped}
 use Rattle.reading_rule.specs.declared.Reading.{Reading}
 use Rattle.reading_rule.specs.declared.Reading.TheVariants.{Shipped, Standard}
-use Rattle.reading_rule.specs.declared.Parsed.{Parsed}
 
 -- a rule, or why and where there is none
 pub data Parse : Type 0 where
@@ -53,12 +50,12 @@ abbrev pub tree_in : Parse → Tree
 tree_in (rule t) = t
 tree_in (norule e) = default_tree
 
-abbrev pub outcome_of : Parse → Outcome
-outcome_of (rule t) = outcome.Loaded
-outcome_of (norule e) = outcome.Refused e
+-- how many nodes the rule has, or the refusal
+abbrev pub outcome_of : Parse → Result ℕ Refusal
+outcome_of (rule t) = Ok (packed_size t)
+outcome_of (norule e) = Err e
 
 -- the outcome, and the tree packed and alone in the arrays, which at exit are Q
-pub record Parses (p : Parse) (Q : Pool) (r : Parsed) : Type 0 where
-  pub outcome : r.outcome ≡ outcome_of p
-  pub nodes : r.nodes ≡ packed_size (tree_in p)
+pub record Parses (p : Parse) (Q : Pool) (r : Result ℕ Refusal) : Type 0 where
+  pub outcome : r ≡ outcome_of p
   pub stored : Q ≡ packed (tree_in p)

@@ -7,10 +7,11 @@ use native.Mathlib.Omega.{arith}
 use lib.ListN.{length, get_or, drop}
 use lib.Seq.{drop-length}
 use lib.Dec.{eqb, ltb}
-use borrow.Author.Tests.{eqb-true}
+use borrow.Author.Tests.{eqb-true, lt-ltb, le-ltb, ltb-true, ltb-false}
+use Rattle.std.specs.Prelude.{Option, Some, None}
 use Rattle.text.proofs.Walk.{rest_at}
 use Rattle.rules.proofs.Trees.{both_left}
-use Rattle.reading_scan.specs.Scan.{stands, counted, index_from, index_of, deeper, further, end_from}
+use Rattle.reading_scan.specs.Scan.{stands, counted, index_from, index_of, found_at, deeper, further, end_from}
 use Rattle.reading_scan.specs.Private.{matched}
 
 pub counted_le : (n b ch : ℕ) → counted n b ch ≤ n + 1
@@ -42,6 +43,9 @@ turn_ends :
 turn_ends true n m o c i F p e = rw e (omega arith)
 turn_ends false n m o c i F p e = absurd (omega (arith, eqb-true 0 m (both_left (eqb 0 m) (eqb o c) e)))
 
+here_is : (pat s : List ℕ) {x : ℕ} → x < length s → x ≡ index_of pat s → Some x ≡ found_at pat s
+here_is pat s h e = let k : index_of pat s < length s = omega arith in rw (e, lt-ltb (index_of pat s) (length s) k, found_at)
+
 module _ (pat s : List ℕ) (i n opened closed : ℕ) (was : index_of pat s ≡ index_from pat (drop i s) i n opened closed) where
   -- after a byte: q signs matched, o and c brackets opened and closed
   module _ (q o c : ℕ) (h : i < length s) (m : q ≡ matched pat n (get_or s i 0)) (u : o ≡ counted opened 40 (get_or s i 0))
@@ -54,21 +58,43 @@ module _ (pat s : List ℕ) (i n opened closed : ℕ) (was : index_of pat s ≡ 
         (λ k. index_from pat (drop (i + 1) s) (i + 1) k (counted opened 40 (get_or s i 0)) (counted closed 41 (get_or s i 0)))
         (rw (m, u, v) at w))
 
-    pub index_here : 0 < length pat → (eqb q (length pat) && eqb o c) ≡ true → i + 1 - q ≡ index_of pat s
+    pub index_here : 0 < length pat → (eqb q (length pat) && eqb o c) ≡ true → Some (i + 1 - q) ≡ found_at pat s
     unfolding index_from
     index_here p e =
+        let l : q ≡ length pat = eqb-true _ _ (both_left (eqb q (length pat)) (eqb o c) e) in
+        here_is pat s (omega arith)
+        (
         rw m
         (turn_ends (stands pat n (get_or s i 0)) n (length pat) (counted opened 40 (get_or s i 0)) (counted closed 41 (get_or s i 0)) i
         (λ k. index_from pat (drop (i + 1) s) (i + 1) k (counted opened 40 (get_or s i 0)) (counted closed 41 (get_or s i 0))) p (rw (m, u, v) at e)
-        ∙ sym (was ∙ rw (rest_at s i h)))
+        ∙ sym (was ∙ rw (rest_at s i h))))
 
-  pub index_end : length s ≤ i → i ≤ length s → i ≡ index_of pat s
+  pub index_end : i ≡ length s → None ≡ found_at pat s
   unfolding index_from
-  index_end h k = let q : i ≡ length s = omega arith in sym (was ∙ rw (q, drop-length))
+  index_end e = let l : index_of pat s ≡ length s = was ∙ rw (e, drop-length) in rw (le-ltb (index_of pat s) (length s) (omega arith), found_at)
 
 pub index_zero : (pat s : List ℕ) → index_of pat s ≡ index_from pat (drop 0 s) 0 0 0 0
 unfolding index_of
 index_zero pat s = refl
+
+-- what the answer of `index_of` says
+pub found_is : (pat s : List ℕ) {i : ℕ} → Some i ≡ found_at pat s → (i ≡ index_of pat s) × (i < length s)
+found_is pat s {i} e = go (ltb (index_of pat s) (length s)) refl e
+  where
+    go :
+        (x : Bool) → ltb (index_of pat s) (length s) ≡ x → Some i ≡ elim x as (λ _. Option ℕ) [ true ↦ Some (index_of pat s) | false ↦ None ] →
+        (i ≡ index_of pat s) × (i < length s)
+    go true q e = let z : i ≡ index_of pat s = cc in (z, omega (arith, ltb-true _ _ q))
+    go false q e = let z : ◌≡◌ {A = ℕ} 0 1 = cc in absurd (omega arith)
+
+pub not_found : (pat s : List ℕ) → None ≡ found_at pat s → length s ≤ index_of pat s
+not_found pat s e = go (ltb (index_of pat s) (length s)) refl e
+  where
+    go :
+        (x : Bool) → ltb (index_of pat s) (length s) ≡ x → None ≡ elim x as (λ _. Option ℕ) [ true ↦ Some (index_of pat s) | false ↦ None ] →
+        length s ≤ index_of pat s
+    go true q e = let z : ◌≡◌ {A = ℕ} 0 1 = cc in absurd (omega arith)
+    go false q e = ltb-false _ _ q
 
 -- a pattern that is found stands in the text whole
 turn_fits :
@@ -121,6 +147,6 @@ pub end_on :
 unfolding end_from
 end_on s r i level index l k h e u v = e ∙ rw (rest_at s i h, u, v)
 
-pub end_end : (s : List ℕ) (r i level index : ℕ) → length s ≤ i → i ≤ length s → r ≡ end_from (drop i s) level index → index ≡ r
+pub end_end : (s : List ℕ) (r i level index : ℕ) → i ≡ length s → r ≡ end_from (drop i s) level index → index ≡ r
 unfolding end_from
-end_end s r i level index h k e = let q : i ≡ length s = omega arith in sym (e ∙ rw (q, drop-length))
+end_end s r i level index h e = sym (e ∙ rw (h, drop-length))

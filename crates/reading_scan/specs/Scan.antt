@@ -1,6 +1,6 @@
 -- What the Shipped reading looks for in a text of bytes. The Rust's plurals.rs: the folds of `index_of` and `parse_parens`. Document 01,
 -- "Two readings of a rule".
-use Rattle.std.specs.Prelude.{ℕ, ◌+◌, ◌-◌, Bool, true, false, ◌&&◌, List, [], ◌∷◌, length, get_or, ltb, eqb}
+use Rattle.std.specs.Prelude.{ℕ, ◌+◌, ◌-◌, Bool, true, false, ◌&&◌, List, [], ◌∷◌, length, get_or, ltb, eqb, Option, Some, None}
 
 -- `Some(ch) == pat.chars().nth(n)`
 abbrev pub stands : List ℕ → ℕ → ℕ → Bool
@@ -25,6 +25,10 @@ index_from pat (ch ∷ s) i n opened closed =
 
 unfoldable pub index_of : List ℕ → List ℕ → ℕ
 index_of pat s = index_from pat s 0 0 0 0
+
+-- the place, if the pattern stands in the text
+abbrev pub found_at : List ℕ → List ℕ → Option ℕ
+found_at pat s = elim (ltb (index_of pat s) (length s)) [ true ↦ Some (index_of pat s) | false ↦ None ]
 
 -- the fold of `parse_parens`, (level, index): the level after a byte, and the index after it
 abbrev pub deeper : ℕ → ℕ → ℕ

@@ -1,5 +1,6 @@
 -- A tree of the Shipped reading has at most as many nodes as its text has bytes: each node takes a byte of its own, the sign or digit that
 -- it is read from, and its operands are read from the other bytes. Assumes nothing.
+use Rattle.std.specs.Prelude.{Option, Some, None}
 use Prim.Native.Nat.{ℕ, zero, suc, ◌+◌, ◌-◌, ◌<◌, ◌≤◌}
 use mathlib.Core.Path.{◌≡◌, refl}
 use mathlib.Core.Bool.{Bool, true, false}
@@ -13,8 +14,6 @@ use Rattle.text_trim.proofs.Trimming.{trim_le}
 use Rattle.rules.specs.Tree.{Tree, var, int, nay, bin, cond, Op, Reading, tree, none}
 use Rattle.rules.specs.Store.{size}
 use Rattle.text_digits.specs.Digits.{integer}
-use Rattle.text_digits.specs.declared.Number.{Number}
-use Rattle.text_digits.specs.declared.Number.TheVariants.{Whole, NoNumber}
 use Rattle.reading_scan.specs.Scan.{index_of, end_from}
 use Rattle.reading_levels.specs.Levels.{Kind, binary, ternary, Row, rows, found}
 use Rattle.reading_shipped.specs.Shipped.{one, two, three, read_n, or_n, read_int, bang, colon, read_not, choose, cut, level, inside, parens, parse_in, shipped}
@@ -69,9 +68,9 @@ unfolding integer trim trim_start trim_end edge_after size
 int_small [] = none_small
 int_small (b ∷ s) = go (integer (b ∷ s))
   where
-    go : (x : Number) → Small (or_n x (b ∷ s)) (length (b ∷ s))
-    go (Whole v) = tree_small (int v) (omega arith)
-    go NoNumber = wider (trim_le six (b ∷ s)) (n_small (trim six (b ∷ s)))
+    go : (x : Option ℕ) → Small (or_n x (b ∷ s)) (length (b ∷ s))
+    go (Some v) = tree_small (int v) (omega arith)
+    go None = wider (trim_le six (b ∷ s)) (n_small (trim six (b ∷ s)))
 
 -- each definition, where the pieces have small trees
 module _ (p : List ℕ → Reading) (small : (s : List ℕ) → Small (p s) (length s)) where

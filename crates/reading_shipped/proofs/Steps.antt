@@ -2,22 +2,21 @@
 -- equation of the reading (Fuel). Assumes nothing.
 use Prim.Native.Nat.{ℕ, ◌+◌, ◌-◌, ◌<◌, ◌≤◌}
 use mathlib.Core.Path.{◌≡◌, refl, sym, ap, ◌∙◌}
-use mathlib.Core.Bool.{Bool, true, false}
 use mathlib.Core.List.{List, [], ◌∷◌}
 use native.Mathlib.Omega.{arith}
 use lib.ListN.{length, get_or, take, drop, length-take, length-drop}
-use lib.Dec.{eqb}
+use borrow.Author.Rules.{rules}
 use borrow.Author.Tests.{eq-eqb, ne_eqb, lt-ltb, le-ltb}
+use Rattle.std.specs.Prelude.{Option, Some, None, IsSome}
 use Rattle.rules.specs.Tree.{var, Op, Reading, tree, none}
 use Rattle.rules.specs.Pool.{Pool, ternary_node}
 use Rattle.rules.specs.Store.{node_code}
 use Rattle.rules.proofs.Operators.{code_in}
-use Rattle.rules.specs.declared.Nodes.{Nodes}
 use Rattle.text_trim.specs.Trim.{trim, six}
-use Rattle.text_digits.specs.declared.Number.{Number}
 use Rattle.text_digits.specs.Digits.{integer}
-use Rattle.reading_scan.specs.Scan.{index_of, end_from}
-use Rattle.reading_levels.specs.Levels.{Kind, binary, ternary, Row, rows, found, code_of}
+use Rattle.reading_scan.specs.Scan.{index_of, found_at, end_from}
+use Rattle.reading_scan.proofs.Scanned.{found_is, not_found}
+use Rattle.reading_levels.specs.Levels.{Kind, binary, ternary, Row, rows, code_of}
 use Rattle.reading_shipped.specs.Shipped.{two, three, one, read_n, or_n, read_int, read_not, choose, cut, cut_at, level, inside, parens, shipped, bang, colon}
 use Rattle.reading_shipped.specs.Private.{Gives}
 use Rattle.reading_shipped.proofs.Written.{wider}
@@ -29,7 +28,7 @@ pub trimmed_le : (s t : List ℕ) → t ≡ trim six s → length t ≤ length s
 trimmed_le s t e = omega (arith, ap length e, trim_le six s)
 
 pub through :
-    (F : List ℕ → Reading) (s t : List ℕ) {o : Reading} {k : ℕ} {P Q : Pool} {r : Nodes} →
+    (F : List ℕ → Reading) (s t : List ℕ) {o : Reading} {k : ℕ} {P Q : Pool} {r : Option ℕ} →
     t ≡ trim six s → o ≡ F (trim six s) → Gives (F t) (length t) k P Q r → Gives o (length s) k P Q r
 through F s t e d w = wider (d ∙ ap F (sym e)) (trimmed_le s t e) w
 
@@ -45,31 +44,26 @@ module _ (s : List ℕ) where
   n_is e h = rw (eq-eqb (length s) 1 e, eq-eqb (get_or s 0 0) 110 h, read_n)
 
   -- `parse_int`
-  pub int_is : (x : Number) → x ≡ integer s → read_int s ≡ or_n x s
+  pub int_is : (x : Option ℕ) → x ≡ integer s → read_int s ≡ or_n x s
   int_is x e = rw e
 
--- `parse_not`: there is no ! in front, or there is one
-module _ (s : List ℕ) (i : ℕ) (e : i ≡ index_of bang s) where
-  pub not_int : (i ≡ 0 → ⊥) → read_not shipped s ≡ read_int (trim six s)
+-- `parse_not`: there is a ! in front, or there is none
+module _ (s : List ℕ) where
+  pub not_is : {i : ℕ} → Some i ≡ found_at bang s → i ≡ 0 → read_not shipped s ≡ one (shipped (drop 1 s))
   unfolding read_not
-  not_int h = go (found bang s) (eqb (index_of bang s) 0) (ne_eqb (index_of bang s) 0 (λ d. h (e ∙ d)))
-    where
-      go :
-          (b c : Bool) → c ≡ false →
-          ◌≡◌ {A = Reading}
-          (elim b [ true ↦ elim c [ true ↦ one (shipped (drop 1 s)) | false ↦ read_int (trim six s) ] | false ↦ read_int (trim six s) ])
-          (read_int (trim six s))
-      go true true d = let z : ◌≡◌ {A = ℕ} 0 1 = cc in absurd (omega arith)
-      go true false d = refl
-      go false c d = refl
+  not_is e d =
+      let f = found_is bang s e in
+      let k : index_of bang s < length s = omega (arith, f.0, f.1) in
+      rw (lt-ltb (index_of bang s) (length s) k, eq-eqb (index_of bang s) 0 (sym f.0 ∙ d), read_not)
 
-  pub not_none : length s ≡ 0 → read_not shipped s ≡ read_int (trim six s)
+  pub not_int : (x : Option ℕ) → x ≡ found_at bang s → (x ≡ Some 0 → ⊥) → read_not shipped s ≡ read_int (trim six s)
   unfolding read_not
-  not_none h = rw (le-ltb (index_of bang s) (length s) (omega arith), read_not)
-
-  pub not_is : i ≡ 0 → (length s ≡ 0 → ⊥) → read_not shipped s ≡ one (shipped (drop 1 s))
-  unfolding read_not
-  not_is d h = rw (lt-ltb (index_of bang s) (length s) (omega arith), eq-eqb (index_of bang s) 0 (sym e ∙ d), read_not)
+  not_int None e h = rw (le-ltb (index_of bang s) (length s) (not_found bang s e), read_not)
+  not_int (Some i) e h =
+      let f = found_is bang s e in
+      let k : index_of bang s < length s = omega (arith, f.0, f.1) in
+      let n : index_of bang s ≡ 0 → ⊥ = λ z. h (ap Some (f.0 ∙ z)) in
+      rw (lt-ltb (index_of bang s) (length s) k, ne_eqb (index_of bang s) 0 n, read_not)
 
 -- `parse_ternary`
 module _ (s : List ℕ) (i l : ℕ) (e : l ≡ index_of colon s) where
@@ -125,7 +119,7 @@ module _ (s : List ℕ) (first : ℕ) (e : first ≡ get_or s 0 0) where
           )
 
 -- the parts that the code reads: the first i bytes, those from a on, and those between
-module _ (s : List ℕ) {k : ℕ} {P Q : Pool} {r : Nodes} where
+module _ (s : List ℕ) {k : ℕ} {P Q : Pool} {r : Option ℕ} where
   pub head_gives : (i : ℕ) → Gives (shipped (take i s)) (length (take i s)) k P Q r → Gives (shipped (take i s)) i k P Q r
   head_gives i w = wider refl (simp length-take (omega arith)) w
 
@@ -139,7 +133,14 @@ module _ (s : List ℕ) {k : ℕ} {P Q : Pool} {r : Nodes} where
       Gives (shipped (take (e - a) (drop a s))) (e - a) k P Q r
   middle_gives a e w = wider refl (simp length-take (omega arith)) w
 
--- a row: what its code says of its kind
+-- a row: the place that was found
+pub placed : (pat s : List ℕ) {x : Option ℕ} {i : ℕ} → x ≡ Some i → x ≡ found_at pat s → i ≡ index_of pat s
+placed pat s e f = (found_is pat s (sym e ∙ f)).0
+
+pub in_text : (pat s : List ℕ) {x : Option ℕ} → x ≡ found_at pat s → index_of pat s < length s → IsSome x
+in_text pat s {x} e h = let f : x ≡ Some (index_of pat s) = e ∙ rw (lt-ltb (index_of pat s) (length s) h, found_at) in rw f (search rules)
+
+-- what its code says of its kind
 no_such_code : (op : Op) → node_code op ≡ ternary_node → ⊥
 no_such_code op e = omega (arith, code_in op)
 

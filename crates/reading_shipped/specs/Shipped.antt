@@ -1,10 +1,8 @@
 -- The Shipped reading: `Ast::parse` of the Rust's plurals.rs, transcribed. SPEC 6.
 -- Each definition names the Rust's function; `parse` stands for the reading of a piece.
-use Rattle.std.specs.Prelude.{ℕ, zero, suc, ◌+◌, ◌-◌, true, false, List, [], ◌∷◌, length, get_or, take, drop, ltb, eqb}
+use Rattle.std.specs.Prelude.{ℕ, zero, suc, ◌+◌, ◌-◌, true, false, List, [], ◌∷◌, length, get_or, take, drop, ltb, eqb, Option, Some, None}
 use Rattle.rules.specs.Tree.{var, int, nay, bin, cond, Op, Reading, tree, none}
 use Rattle.text_trim.specs.Trim.{trim, six}
-use Rattle.text_digits.specs.declared.Number.{Number}
-use Rattle.text_digits.specs.declared.Number.TheVariants.{Whole, NoNumber}
 use Rattle.text_digits.specs.Digits.{integer}
 use Rattle.reading_scan.specs.Scan.{index_of, end_from}
 use Rattle.reading_levels.specs.Levels.{Kind, binary, ternary, Row, rows, found}
@@ -29,9 +27,9 @@ three none q r = none
 abbrev pub read_n : List ℕ → Reading
 read_n s = elim (eqb (length s) 1) [ true ↦ elim (eqb (get_or s 0 0) 110) [ true ↦ tree var | false ↦ none ] | false ↦ none ]
 
-abbrev pub or_n : Number → List ℕ → Reading
-or_n (Whole v) s = tree (int v)
-or_n NoNumber s = read_n (trim six s)
+abbrev pub or_n : Option ℕ → List ℕ → Reading
+or_n (Some v) s = tree (int v)
+or_n None s = read_n (trim six s)
 
 abbrev pub read_int : List ℕ → Reading
 read_int s = or_n (integer s) s

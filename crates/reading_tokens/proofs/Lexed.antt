@@ -1,34 +1,31 @@
 -- The steps of the token reader, over plain values: each is one step of the definition of a text's tokens.
-use Prim.Native.Nat.{ℕ, suc, ◌+◌, ◌-◌, ◌*◌, ◌<◌, ◌≤◌, ◌^◌}
+use Prim.Native.Nat.{ℕ, suc, ◌+◌, ◌-◌, ◌*◌, ◌<◌, ◌≤◌, ◌^◌, max}
 use mathlib.Core.Path.{◌≡◌, refl, sym, ap, ◌∙◌}
 use mathlib.Core.Bool.{Bool, true, false, false≢true}
 use mathlib.Core.List.{List, [], ◌∷◌}
 use mathlib.Core.Option.{Option, none, some}
+use Rattle.std.specs.Prelude.{Some, None}
 use native.Mathlib.Omega.{arith}
 use native.Mathlib.Numerals.{add-one}
-use lib.ListN.{length, drop, get_or, length-drop, drop_of_length-le, get_or-eq_default}
+use lib.ListN.{length, drop, get_or, length-drop, drop_of_length-le}
 use lib.Seq.{drop-cons, drop-drop, get_or-drop}
 use lib.Dec.{eqb, leb}
-use borrow.Author.Tests.{eq-eqb, ne_eqb, leb-true, leb-false, lt-ltb, le-ltb}
+use borrow.Author.Tests.{ne_eqb, leb-true, leb-false, lt-ltb, le-ltb}
 use Rattle.text.specs.Bytes.{front}
 use Rattle.text.proofs.Tests.{by_test}
-use Rattle.text.proofs.Front.{front_in, front_out, front_least, counted_end, counted_stop, counted_more}
+use Rattle.text.proofs.Front.{Counted, front_in, front_out, front_least, counted_end, counted_stop, counted_more}
 use Rattle.rules.specs.Tree.{Op}
 use Rattle.rules.specs.Store.{node_code}
 use Rattle.text_digits.specs.Digits.{digit_on}
-use Rattle.text_digits.specs.declared.Number.{Number}
-use Rattle.text_digits.specs.declared.Number.TheVariants.{Whole, NoNumber}
 use Rattle.text_digits.proofs.Digits.{on_whole, on_none}
 use Rattle.reading_grammar.specs.Grammar.{Token, sign, number, mark}
-use Rattle.reading_grammar.specs.Tokens.{tokens, lex, digits, second, digit, blank, two, find_two, twos, find_one, ones}
+use Rattle.reading_grammar.specs.Tokens.{tokens, lex, digits, second, digit, blank, two, find_one, ones}
 use Rattle.reading_tokens.specs.declared.Next.{Next}
 use Rattle.reading_tokens.specs.declared.Next.TheVariants as next
 use Rattle.reading_tokens.specs.declared.Next.TheVariants.{End, Sign, Huge, Mark}
-use Rattle.reading_tokens.specs.declared.After.TheVariants.{At, Other}
-use Rattle.reading_tokens.specs.Scan.{skipped, width, after, first, next, passed}
-use Rattle.reading_tokens.specs.Private.{code_of, sign_of, pair_from, single_from, ran}
+use Rattle.reading_tokens.specs.Scan.{skipped, width, after, first, next}
+use Rattle.reading_tokens.specs.Private.{code_of, sign_code, pair_code, single_code, ran}
 use Rattle.reading_grammar.proofs.Choice.{taken_if, left_if}
-use Rattle.reading_tokens.proofs.Rows.{past_end}
 
 -- the byte after those in front that pass a test does not
 stands : (f : ℕ → Bool) (s : List ℕ) → front f s < length s → f (get_or s (front f s) 0) ≡ false
@@ -38,24 +35,21 @@ stands f s h =
     (λ e. e)
 
 -- skip
-module _ (s : List ℕ) (at : ℕ) where
-  pub skip_end : length s ≤ at → at ≡ skipped s at
+module _ (s : List ℕ) (at i : ℕ) (e : Counted blank s at i) where
+  pub skip_on : i < length s → blank (get_or s i 0) ≡ true → Counted blank s at (i + 1)
+  skip_on h b = counted_more blank s at i h b e
+
+  pub skip_stop : i < length s → blank (get_or s i 0) ≡ false → i ≡ skipped s at
   unfolding skipped
-  skip_end h = counted_end blank s at at h refl
+  skip_stop h b = counted_stop blank s at i h b e
 
-  pub skip_blank : {r : ℕ} → at < length s → blank (get_or s at 0) ≡ true → r ≡ skipped s (at + 1) → r ≡ skipped s at
+  pub skip_end : length s ≤ i → (at ≤ length s → i ≤ length s) → max at (length s) ≡ skipped s at
   unfolding skipped
-  skip_blank h e w = w ∙ sym (counted_more blank s at at h e refl)
-
-  pub skip_space : {r : ℕ} → at < length s → get_or s at 0 ≡ 32 → r ≡ skipped s (at + 1) → r ≡ skipped s at
-  skip_space h e w = skip_blank h (rw e refl) w
-
-  pub skip_tab : {r : ℕ} → at < length s → get_or s at 0 ≡ 9 → r ≡ skipped s (at + 1) → r ≡ skipped s at
-  skip_tab h e w = skip_blank h (rw e refl) w
-
-  pub skip_stop : at < length s → (get_or s at 0 ≡ 32 → ⊥) → (get_or s at 0 ≡ 9 → ⊥) → at ≡ skipped s at
-  unfolding skipped
-  skip_stop h i j = counted_stop blank s at at h (rw (ne_eqb _ _ i, ne_eqb _ _ j) refl) refl
+  skip_end h l = go (leb at (length s)) refl
+    where
+      go : (x : Bool) → leb at (length s) ≡ x → max at (length s) ≡ at + front blank (drop at s)
+      go true b = let k = l (leb-true _ _ b) in omega (arith, leb-true _ _ b, counted_end blank s at i h e)
+      go false b = let k = leb-false _ _ b in omega (arith, counted_end blank s at at (omega arith) refl)
 
 -- run
 first_small : (v e : ℕ) → v < 2 ^ 64 → first (number v ∷ []) e ≡ next.Number v e
@@ -92,9 +86,11 @@ module _ (v : ℕ) (s : List ℕ) (at : ℕ) where
   unfolding ran
   ran_is ts e i j = rw (i, j) refl
 
-  pub run_end : v < 2 ^ 64 → length s ≤ at → next.Number v at ≡ ran v s at
+  pub run_end : v < 2 ^ 64 → at ≡ length s → next.Number v (length s) ≡ ran v s at
   unfolding lex
-  run_end b h = sym (ran_is (number v ∷ []) at (rw (drop_of_length-le s h) refl) (sym (counted_end digit s at at h refl)) ∙ first_small v at b)
+  run_end b e =
+      let h : length s ≤ at = omega arith in
+      rw (← e) (sym (ran_is (number v ∷ []) at (rw (drop_of_length-le s h) refl) (sym (counted_end digit s at at h refl)) ∙ first_small v at b))
 
   pub run_stop : v < 2 ^ 64 → at < length s → digit (get_or s at 0) ≡ false → next.Number v at ≡ ran v s at
   run_stop b h e =
@@ -103,16 +99,16 @@ module _ (v : ℕ) (s : List ℕ) (at : ℕ) where
   grow_at : at < length s → digit (get_or s at 0) ≡ true → lex (digits v) (drop at s) ≡ lex (digits (10 * v + (get_or s at 0 - 48))) (drop (at + 1) s)
   grow_at h e = rw (drop-cons s at 0 h, add-one at) (grow_head v _ _ e)
 
-  module _ (h : at < length s) (e : digit (get_or s at 0) ≡ true) {x : Number} (f : x ≡ digit_on v (get_or s at 0)) where
-    pub run_more : {w : ℕ} {r : Next} → x ≡ Whole w → r ≡ ran w s (at + 1) → r ≡ ran v s at
+  module _ (h : at < length s) (e : digit (get_or s at 0) ≡ true) where
+    pub run_on : {w : ℕ} → Some w ≡ digit_on v (get_or s at 0) → ran v s at ≡ ran w s (at + 1)
     unfolding ran
-    run_more {w} g r =
-        let k = on_whole v (get_or s at 0) e (sym f ∙ g) in
-        r ∙ sym (ran_is (lex (digits w) (drop (at + 1) s)) (at + 1 + front digit (drop (at + 1) s)) (rw k (grow_at h e)) (counted_more digit s at at h e refl))
+    run_on {w} f =
+        let k = on_whole v (get_or s at 0) e (sym f) in
+        ran_is (lex (digits w) (drop (at + 1) s)) (at + 1 + front digit (drop (at + 1) s)) (rw k (grow_at h e)) (counted_more digit s at at h e refl)
 
-    pub run_huge : x ≡ NoNumber → Huge ≡ ran v s at
-    run_huge g =
-        let k = on_none v (get_or s at 0) e (sym f ∙ g) in
+    pub run_huge : None ≡ digit_on v (get_or s at 0) → Huge ≡ ran v s at
+    run_huge f =
+        let k = on_none v (get_or s at 0) e (sym f) in
         let w = whole (10 * v + (get_or s at 0 - 48)) (drop (at + 1) s) in
         sym (ran_is _ _ (grow_at h e ∙ w.is) refl ∙ first_huge w.w _ (omega (arith, w.grows)))
 
@@ -170,28 +166,22 @@ module _ (b : ℕ) (r : List ℕ) where
   unfolding tokens width
   of_one e f t = (left_if _ _ e ∙ (left_if _ _ f ∙ rw t refl), left_if _ _ e ∙ rw t refl)
 
--- the operator that a byte begins, by the next byte or 0
-two_at : (b : ℕ) (s : List ℕ) (i : ℕ) → two b (drop (suc i) s) ≡ find_two twos b (get_or s (i + 1) 0)
-two_at b s i = go (leb (length s) (suc i)) refl
-  where
-    go : (x : Bool) → leb (length s) (suc i) ≡ x → two b (drop (suc i) s) ≡ find_two twos b (get_or s (i + 1) 0)
-    go true e = rw (drop_of_length-le s (leb-true _ _ e), add-one i, get_or-eq_default s 0 (leb-true (length s) (suc i) e))
-        (sym (past_end b))
-    go false e = rw (drop-cons s (suc i) 0 (leb-false _ _ e), add-one i) refl
-
 -- a token
-first_sign : (x : Token) (r : List Token) (o e : ℕ) → o ≡ code_of (sign_of x) → (o ≡ 0 → ⊥) → Sign o e ≡ first (x ∷ r) e
-first_sign (sign op) r o e t n = rw t refl
-first_sign (number v) r o e t n = absurd (n t)
-first_sign (mark b) r o e t n = absurd (n t)
+first_sign : (x : Token) (r : List Token) {o : ℕ} (e : ℕ) → Some o ≡ sign_code x → Sign o e ≡ first (x ∷ r) e
+first_sign (sign op) r {o} e t = let z : o ≡ node_code op = cc in rw z
+first_sign (number v) r e t = absurd (let z : ◌≡◌ {A = ℕ} 0 1 = cc in omega arith)
+first_sign (mark b) r e t = absurd (let z : ◌≡◌ {A = ℕ} 0 1 = cc in omega arith)
 
-lost_one : (rs : List (ℕ × Op)) (b : ℕ) → 0 ≡ code_of (sign_of (find_one rs b)) → find_one rs b ≡ mark b
+lost_one : (rs : List (ℕ × Op)) (b : ℕ) → None ≡ sign_code (find_one rs b) → find_one rs b ≡ mark b
 lost_one [] b t = refl
 lost_one (x ∷ rs) b t = go (eqb b x.0) refl (lost_one rs b)
   where
-    go : (y : Bool) → eqb b x.0 ≡ y → (0 ≡ code_of (sign_of (find_one rs b)) → find_one rs b ≡ mark b) → find_one (x ∷ rs) b ≡ mark b
-    go true e k = let z : 0 ≡ node_code x.1 = t ∙ ap (λ (u : Token). code_of (sign_of u)) (taken_if _ _ e) in absurd (omega arith)
-    go false e k = left_if _ _ e ∙ k (t ∙ ap (λ (u : Token). code_of (sign_of u)) (left_if _ _ e))
+    go : (y : Bool) → eqb b x.0 ≡ y → (None ≡ sign_code (find_one rs b) → find_one rs b ≡ mark b) → find_one (x ∷ rs) b ≡ mark b
+    go true e k =
+        let z : None ≡ Some (node_code x.1) = t ∙ ap sign_code (taken_if _ _ e) in
+        let y : ◌≡◌ {A = ℕ} 0 1 = cc in
+        absurd (omega arith)
+    go false e k = left_if _ _ e ∙ k (t ∙ ap sign_code (left_if _ _ e))
 
 module _ (s : List ℕ) (at : ℕ) {i : ℕ} (k : i ≡ skipped s at) where
   here : next s at ≡ first (tokens (drop i s)) (i + width (drop i s))
@@ -212,46 +202,35 @@ module _ (s : List ℕ) (at : ℕ) {i : ℕ} (k : i ≡ skipped s at) where
       let g = z.0 ∙ ap (λ (v : ℕ). lex (digits v) (drop (suc i) s)) n ∙ sym (grow_head 0 (get_or s i 0) (drop (suc i) s) e) in
       r ∙ rw (drop-cons s i 0 h) (sym (at_byte _ _ h g (omega (arith, z.1, front_in digit (get_or s i 0) (drop (suc i) s) e))))
 
-  module _ {b c : ℕ} (h : i < length s) (eb : b ≡ get_or s i 0) (ec : c ≡ get_or s (i + 1) 0) (e : digit b ≡ false) where
+  module _ {b : ℕ} (h : i < length s) (eb : b ≡ get_or s i 0) (e : digit b ≡ false) where
     quiet : blank b ≡ false
     quiet = rw (eb, k) (no_blank s at (omega arith))
 
-    found : {o : Option Op} → find_two twos b c ≡ o → two b (drop (suc i) s) ≡ o
-    found f = two_at b s i ∙ rw (← ec) f
-
-    pub at_two : {w : ℕ} → w ≡ pair_from 0 b c → (w ≡ 0 → ⊥) → Sign w (i + 2) ≡ next s at
-    unfolding pair_from
-    at_two {w} t n = go (find_two twos b c) refl
+    pub at_two : {w : ℕ} → Some w ≡ pair_code b (drop (i + 1) s) → Sign w (i + 2) ≡ next s at
+    at_two {w} t = go (two b (drop (suc i) s)) refl (rw add-one at t)
       where
-        go : (o : Option Op) → find_two twos b c ≡ o → Sign w (i + 2) ≡ next s at
-        go none f = absurd (n (t ∙ ap code_of f))
-        go (some op) f =
-            let z = of_two b (drop (suc i) s) e quiet (found f) in
-            rw (t ∙ ap code_of f) (sym (at_byte (sign op ∷ lex second (drop (suc i) s)) (i + 2) h (rw (← eb) z.0) (rw (← eb, z.1) refl)))
+        go : (o : Option Op) → two b (drop (suc i) s) ≡ o → Some w ≡ pair_code b (drop (suc i) s) → Sign w (i + 2) ≡ next s at
+        go none f t = let z : Some w ≡ None = t ∙ ap code_of f in let y : ◌≡◌ {A = ℕ} 0 1 = cc in absurd (omega arith)
+        go (some op) f t =
+            let y : Some w ≡ Some (node_code op) = t ∙ ap code_of f in
+            let v : w ≡ node_code op = cc in
+            let z = of_two b (drop (suc i) s) e quiet f in
+            rw v (sym (at_byte (sign op ∷ lex second (drop (suc i) s)) (i + 2) h (rw (← eb) z.0) (rw (← eb, z.1) refl)))
 
-    alone : 0 ≡ pair_from 0 b c → next s at ≡ first (find_one ones b ∷ tokens (drop (suc i) s)) (i + 1)
-    unfolding pair_from
-    alone t = go (find_two twos b c) refl
+    alone : None ≡ pair_code b (drop (i + 1) s) → next s at ≡ first (find_one ones b ∷ tokens (drop (suc i) s)) (i + 1)
+    alone t = go (two b (drop (suc i) s)) refl (rw add-one at t)
       where
-        go : (o : Option Op) → find_two twos b c ≡ o → next s at ≡ first (find_one ones b ∷ tokens (drop (suc i) s)) (i + 1)
-        go none f = let z = of_one b (drop (suc i) s) e quiet (found f) in at_byte (find_one ones b ∷ tokens (drop (suc i) s)) (i + 1) h (rw (← eb) z.0) (rw (← eb, z.1) refl)
-        go (some op) f = let z : 0 ≡ node_code op = t ∙ ap code_of f in absurd (omega arith)
+        go : (o : Option Op) → two b (drop (suc i) s) ≡ o → None ≡ pair_code b (drop (suc i) s)
+            → next s at ≡ first (find_one ones b ∷ tokens (drop (suc i) s)) (i + 1)
+        go none f t = let z = of_one b (drop (suc i) s) e quiet f in at_byte (find_one ones b ∷ tokens (drop (suc i) s)) (i + 1) h (rw (← eb) z.0) (rw (← eb, z.1) refl)
+        go (some op) f t =
+            let z : None ≡ Some (node_code op) = t ∙ ap code_of f in
+            let y : ◌≡◌ {A = ℕ} 0 1 = cc in
+            absurd (omega arith)
 
-    pub at_one : {w o : ℕ} → w ≡ pair_from 0 b c → w ≡ 0 → o ≡ single_from 0 b → (o ≡ 0 → ⊥) → Sign o (i + 1) ≡ next s at
-    unfolding single_from
-    at_one t n u m = first_sign (find_one ones b) (tokens (drop (suc i) s)) _ (i + 1) u m ∙ sym (alone (sym n ∙ t))
+    module _ (t : None ≡ pair_code b (drop (i + 1) s)) where
+      pub at_one : {o : ℕ} → Some o ≡ single_code b → Sign o (i + 1) ≡ next s at
+      at_one u = first_sign (find_one ones b) (tokens (drop (suc i) s)) (i + 1) u ∙ sym (alone t)
 
-    pub at_mark : {w o : ℕ} → w ≡ pair_from 0 b c → w ≡ 0 → o ≡ single_from 0 b → o ≡ 0 → Mark b (i + 1) ≡ next s at
-    unfolding single_from
-    at_mark t n u m = sym (alone (sym n ∙ t) ∙ rw (lost_one ones b (sym m ∙ u)) refl)
-
--- past
-module _ {x y : Next} where
-  pub past_kind : (c : ℕ) {z : Next} → x ≡ y → x ≡ z → passed c z ≡ passed c y
-  past_kind c w e = ap (passed c) (sym e ∙ w)
-
-  pub past_got : {b c e : ℕ} → x ≡ y → x ≡ Mark b e → b ≡ c → At e ≡ passed c y
-  past_got {b} {c} w i h = sym (taken_if _ _ (eq-eqb b c h)) ∙ past_kind c w i
-
-  pub past_other : {b c e : ℕ} → x ≡ y → x ≡ Mark b e → (b ≡ c → ⊥) → Other ≡ passed c y
-  past_other {b} {c} w i h = sym (left_if _ _ (ne_eqb b c h)) ∙ past_kind c w i
+      pub at_mark : None ≡ single_code b → Mark b (i + 1) ≡ next s at
+      at_mark u = sym (alone t ∙ rw (lost_one ones b u) refl)

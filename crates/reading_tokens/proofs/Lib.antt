@@ -1,5 +1,4 @@
-mod Table
-pub mod Rows
+mod Ranks
 mod Lexed
 pub mod Nexts
 pub mod Unique

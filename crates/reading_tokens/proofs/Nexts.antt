@@ -1,9 +1,10 @@
 -- What an answer tells: the token that stands next, and that the tokens after it are those of the text from the position after it on.
 use Prim.Native.Nat.{ℕ, suc, ◌-◌, ◌<◌, ◌≤◌, ◌^◌}
-use mathlib.Core.Path.{◌≡◌, refl, sym, ap, ◌∙◌}
+use mathlib.Core.Path.{◌≡◌, refl, ap, ◌∙◌}
 use mathlib.Core.Bool.{Bool, true, false}
 use mathlib.Core.List.{List, [], ◌∷◌}
-use mathlib.Core.Option.{Option, none, some}
+use mathlib.Core.Option as found
+use Rattle.std.specs.Prelude.{Option, Some, None}
 use native.Mathlib.Omega.{arith}
 use lib.ListN.{length, drop, get_or, length-drop}
 use lib.Seq.{drop-cons, drop-drop}
@@ -16,8 +17,6 @@ use Rattle.reading_grammar.specs.Tokens.{tokens, digit, blank, two, find_one, on
 use Rattle.reading_grammar.specs.Reading.{Outcome, got, bad, past}
 use Rattle.reading_tokens.specs.declared.Next.{Next}
 use Rattle.reading_tokens.specs.declared.Next.TheVariants.{End, Sign, Number, Huge, Mark}
-use Rattle.reading_tokens.specs.declared.After.{After}
-use Rattle.reading_tokens.specs.declared.After.TheVariants.{At, Other}
 use Rattle.reading_tokens.specs.Scan.{Operator, skipped, width, after, first, next, passed}
 use Rattle.reading_grammar.proofs.Choice.{left_if}
 use Rattle.reading_tokens.proofs.Lexed.{whole, same, none_left, skips, no_blank, of_digit, of_two, of_one}
@@ -29,7 +28,7 @@ record Begun (s : List ℕ) : Type 0 where
   long : 0 < width s
   within : width s ≤ length s
 
-begun_two : (b : ℕ) (r : List ℕ) (op : Op) → digit b ≡ false → blank b ≡ false → two b r ≡ some op → Begun (b ∷ r)
+begun_two : (b : ℕ) (r : List ℕ) (op : Op) → digit b ≡ false → blank b ≡ false → two b r ≡ found.some op → Begun (b ∷ r)
 unfolding tokens
 begun_two b [] op e n t = let z : ◌≡◌ {A = ℕ} 0 1 = cc in absurd (omega arith)
 begun_two b (c ∷ r) op e n t =
@@ -39,13 +38,13 @@ begun_two b (c ∷ r) op e n t =
 begun : (b : ℕ) (r : List ℕ) → blank b ≡ false → Begun (b ∷ r)
 begun b r n = go (digit b) refl (two b r) refl
   where
-    go : (d : Bool) → digit b ≡ d → (o : Option Op) → two b r ≡ o → Begun (b ∷ r)
+    go : (d : Bool) → digit b ≡ d → (o : found.Option Op) → two b r ≡ o → Begun (b ∷ r)
     go true e o t =
         let g = whole (b - 48) r in
         let z = of_digit b r e in
         record { x = number g.w; is = z.0 ∙ (g.is ∙ rw z.1 refl); long = omega (arith, z.1); within = omega (arith, z.1, front_length digit r) }
-    go false e (some op) t = begun_two b r op e n t
-    go false e none t =
+    go false e (found.some op) t = begun_two b r op e n t
+    go false e found.none t =
         let z = of_one b r e n t in
         record { x = find_one ones b; is = z.0 ∙ rw z.1 refl; long = omega (arith, z.1); within = omega (arith, z.1) }
 
@@ -109,33 +108,33 @@ means s at (number v ∷ r) e = go (ltb v (2 ^ 64)) refl
     go false h = record { v = v; rest = r; is = e; big = ltb-false _ _ h }
 means s at (mark b ∷ r) e = stepped s at (mark b) r e
 
-module _ (s : List ℕ) (at : ℕ) {x : Next} where
-  next_is : {y : Next} → x ≡ next s at → x ≡ y → Nexts s at y
+module _ (s : List ℕ) (at : ℕ) where
+  next_is : {x : Next} → x ≡ next s at → Nexts s at x
   unfolding next
-  next_is w e = rw (sym e ∙ w) (means s at (tokens (drop at s)) refl)
+  next_is w = rw w (means s at (tokens (drop at s)) refl)
 
-  pub ended : x ≡ next s at → x ≡ End → tokens (drop at s) ≡ []
-  ended w e = next_is w e
+  pub ended : End ≡ next s at → tokens (drop at s) ≡ []
+  ended w = next_is w
 
-  pub signed : {c e : ℕ} → x ≡ next s at → x ≡ Sign c e → SignAt s at c e
-  signed w e = next_is w e
+  pub signed : {c e : ℕ} → Sign c e ≡ next s at → SignAt s at c e
+  signed w = next_is w
 
-  pub numbered : {v e : ℕ} → x ≡ next s at → x ≡ Number v e → NumberAt s at v e
-  numbered w e = next_is w e
+  pub numbered : {v e : ℕ} → Number v e ≡ next s at → NumberAt s at v e
+  numbered w = next_is w
 
-  pub huge : x ≡ next s at → x ≡ Huge → HugeAt s at
-  huge w e = next_is w e
+  pub huge : Huge ≡ next s at → HugeAt s at
+  huge w = next_is w
 
-  pub marked : {b e : ℕ} → x ≡ next s at → x ≡ Mark b e → Step s at (mark b) e
-  marked w e = next_is w e
+  pub marked : {b e : ℕ} → Mark b e ≡ next s at → Step s at (mark b) e
+  marked w = next_is w
 
 -- the byte c had to come next
 pub record NotNext (c : ℕ) (s : List ℕ) (at : ℕ) : Type 0 where
   pub ends : (t : Tree) (K : Tree → List Token → Outcome) → past c (got t (tokens (drop at s))) K ≡ bad
 
-abbrev Passed : ℕ → List ℕ → ℕ → After → Type 0
-Passed c s at (At e) = Step s at (mark c) e
-Passed c s at Other = NotNext c s at
+abbrev Passed : ℕ → List ℕ → ℕ → Option ℕ → Type 0
+Passed c s at (Some e) = Step s at (mark c) e
+Passed c s at None = NotNext c s at
 
 pass_means : (c : ℕ) (s : List ℕ) (at : ℕ) (ts : List Token) → tokens (drop at s) ≡ ts → Passed c s at (passed c (first ts (after s at)))
 pass_means c s at [] e = record { ends = λ t K. rw e refl }
@@ -147,17 +146,17 @@ pass_means c s at (number v ∷ r) e = go (ltb v (2 ^ 64))
     go false = record { ends = λ t K. rw e refl }
 pass_means c s at (mark b ∷ r) e = go (eqb b c) refl
   where
-    go : (y : Bool) → eqb b c ≡ y → Passed c s at (elim y [ true ↦ At (after s at) | false ↦ Other ])
+    go : (y : Bool) → eqb b c ≡ y → Passed c s at (elim y [ true ↦ Some (after s at) | false ↦ None ])
     go true h = rw (← eqb-true b c h) (stepped s at (mark b) r e)
     go false h = record { ends = λ t K. rw e (left_if _ _ h) }
 
-module _ (c : ℕ) (s : List ℕ) (at : ℕ) {x : After} where
-  pass_is : {y : After} → x ≡ passed c (next s at) → x ≡ y → Passed c s at y
+module _ (c : ℕ) (s : List ℕ) (at : ℕ) where
+  pass_is : {x : Option ℕ} → x ≡ passed c (next s at) → Passed c s at x
   unfolding next
-  pass_is w e = rw (sym e ∙ w) (pass_means c s at (tokens (drop at s)) refl)
+  pass_is w = rw w (pass_means c s at (tokens (drop at s)) refl)
 
-  pub got_past : {p : ℕ} → x ≡ passed c (next s at) → x ≡ At p → Step s at (mark c) p
-  got_past w e = pass_is w e
+  pub got_past : {p : ℕ} → Some p ≡ passed c (next s at) → Step s at (mark c) p
+  got_past w = pass_is w
 
-  pub unpassed : x ≡ passed c (next s at) → x ≡ Other → NotNext c s at
-  unpassed w e = pass_is w e
+  pub unpassed : None ≡ passed c (next s at) → NotNext c s at
+  unpassed w = pass_is w

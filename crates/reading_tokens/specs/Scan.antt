@@ -1,6 +1,6 @@
 -- The token that stands next: the first of the tokens of the text from a position on (grammar's specs/Tokens.antt; document
 -- 01, "Two readings of a rule"), and the position after it.
-use Rattle.std.specs.Prelude.{ℕ, suc, ◌+◌, ◌^◌, ◌≡◌, true, false, List, [], ◌∷◌, drop, ltb, eqb}
+use Rattle.std.specs.Prelude.{ℕ, suc, ◌+◌, ◌^◌, ◌≡◌, true, false, List, [], ◌∷◌, drop, ltb, eqb, Option, Some, None}
 use Rattle.std.proofs.Math.Option.{none, some}
 use Rattle.text.specs.Bytes.{front}
 use Rattle.rules.specs.Tree.{Op}
@@ -9,8 +9,6 @@ use Rattle.reading_grammar.specs.Grammar.{Token, sign, number, mark, rank}
 use Rattle.reading_grammar.specs.Tokens.{tokens, digit, blank, two}
 use Rattle.reading_tokens.specs.declared.Next.{Next}
 use Rattle.reading_tokens.specs.declared.Next.TheVariants.{End, Sign, Number, Huge, Mark}
-use Rattle.reading_tokens.specs.declared.After.{After}
-use Rattle.reading_tokens.specs.declared.After.TheVariants.{At, Other}
 
 -- the code of a binary operator's node, and the operator's rank
 pub record Operator (c : ℕ) : Type 0 where
@@ -45,9 +43,9 @@ unfoldable pub next : List ℕ → ℕ → Next
 next s at = first (tokens (drop at s)) (after s at)
 
 -- the position after the byte c, if it is next
-abbrev pub passed : ℕ → Next → After
-passed c (Mark b e) = elim (eqb b c) [ true ↦ At e | false ↦ Other ]
-passed c (Number v e) = Other
-passed c (Sign o e) = Other
-passed c End = Other
-passed c Huge = Other
+abbrev pub passed : ℕ → Next → Option ℕ
+passed c (Mark b e) = elim (eqb b c) [ true ↦ Some e | false ↦ None ]
+passed c (Number v e) = None
+passed c (Sign o e) = None
+passed c End = None
+passed c Huge = None

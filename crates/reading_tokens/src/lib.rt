@@ -1,15 +1,15 @@
-// The tokens of a plural rule, one after the other: the token that stands next from a position on, and the position after it. The operators
-// are rows of tables.
+// The tokens of a plural rule, one after the other: the token that stands next from a position on, and the position after it.
 #![tactic(auto)]
 
-ghost use Rattle.std.specs.Prelude.{◌≡◌, get_or};
+ghost use Rattle.std.specs.Prelude.{◌≡◌, ◌<◌, length};
+ghost use Rattle.reading_grammar.specs.Tokens.{blank};
 ghost use Rattle.reading_tokens.specs.Scan.{Operator, Ranks, skipped, next, passed};
-ghost use Rattle.reading_tokens.specs.Private.{pair_from, single_from, ran};
+ghost use Rattle.reading_tokens.specs.Private.{pair_code, single_code, ran};
 
 use rules::node;
-use text_digits::Number;
 
-// The next token and the position after it: an operator by its node's code, an integer of 64 bits or Huge, or any other byte.
+// The next token and the position after it: an operator by its node's code, an integer of 64 bits or Huge, or any other byte. The code is a
+// byte and no enum, since it is what goes into the arrays of nodes, whose elements the C interface fixes.
 #[derive(Clone, Copy)]
 pub enum Next {
     End,
@@ -19,40 +19,6 @@ pub enum Next {
     Mark(u8, usize),
 }
 
-// The position after a byte that had to come next.
-#[derive(Clone, Copy)]
-pub enum After {
-    At(usize),
-    Other,
-}
-
-// The operators of two bytes: first byte, second byte, code.
-const FIRST: [u8; 6] = [b'=', b'!', b'<', b'>', b'&', b'|'];
-
-const SECOND: [u8; 6] = [b'=', b'=', b'=', b'=', b'&', b'|'];
-
-const PAIR_CODE: [u8; 6] = [
-    node::OP + node::EQUAL,
-    node::OP + node::NOT_EQUAL,
-    node::OP + node::SMALLER_OR_EQUAL,
-    node::OP + node::GREATER_OR_EQUAL,
-    node::OP + node::AND,
-    node::OP + node::OR,
-];
-
-// The operators of one byte: byte, code.
-const SINGLE: [u8; 7] = [b'%', b'/', b'*', b'+', b'-', b'<', b'>'];
-
-const SINGLE_CODE: [u8; 7] = [
-    node::OP + node::MODULO,
-    node::OP + node::DIVIDE,
-    node::OP + node::TIMES,
-    node::OP + node::PLUS,
-    node::OP + node::MINUS,
-    node::OP + node::SMALLER,
-    node::OP + node::GREATER,
-];
-
 // The rank of each operator, 1 the tightest.
 const RANK: [u8; 13] = [4, 4, 3, 3, 3, 3, 5, 6, 1, 1, 2, 2, 1];
 
@@ -61,79 +27,76 @@ pub fn rank_of(c: u8) -> u8
     requires { Operator c }
     ensures { Ranks c result }
 {
-    RANK[(c - node::OP) as usize]
+    RANK[usize::from(c - node::OP)]
 }
 
-// The code of the operator that two bytes are, among the rows from i on; 0 for none.
-fn pair(b: u8, c: u8, i: usize) -> u8
-    ensures { result ≡ pair_from i b c }
+// The code of the operator that a byte is together with the first after it.
+#[tactic(auto, unfolding(rules::specs::Operator::op_code))]
+fn pair(b: u8, after: &[u8]) -> Option<u8>
+    ensures { result ≡ pair_code b after.now }
 {
-    if i >= 6 {
-        return 0;
+    match (b, *after.first()?) {
+        (b'=', b'=') => Some(node::OP + node::EQUAL),
+        (b'!', b'=') => Some(node::OP + node::NOT_EQUAL),
+        (b'<', b'=') => Some(node::OP + node::SMALLER_OR_EQUAL),
+        (b'>', b'=') => Some(node::OP + node::GREATER_OR_EQUAL),
+        (b'&', b'&') => Some(node::OP + node::AND),
+        (b'|', b'|') => Some(node::OP + node::OR),
+        _ => None,
     }
-    if b != FIRST[i] {
-        return pair(b, c, i + 1);
-    }
-    if c != SECOND[i] {
-        return pair(b, c, i + 1);
-    }
-    PAIR_CODE[i]
 }
 
-// The same of one byte.
-fn single(b: u8, i: usize) -> u8
-    ensures { result ≡ single_from i b }
+// The code of the operator that one byte is.
+#[tactic(auto, unfolding(rules::specs::Operator::op_code))]
+fn single(b: u8) -> Option<u8>
+    ensures { result ≡ single_code b }
 {
-    if i >= 7 {
-        return 0;
+    match b {
+        b'%' => Some(node::OP + node::MODULO),
+        b'/' => Some(node::OP + node::DIVIDE),
+        b'*' => Some(node::OP + node::TIMES),
+        b'+' => Some(node::OP + node::PLUS),
+        b'-' => Some(node::OP + node::MINUS),
+        b'<' => Some(node::OP + node::SMALLER),
+        b'>' => Some(node::OP + node::GREATER),
+        _ => None,
     }
-    if b != SINGLE[i] {
-        return single(b, i + 1);
-    }
-    SINGLE_CODE[i]
+}
+
+fn is_blank(b: u8) -> bool
+    ensures { result ≡ blank b }
+{
+    b == b' ' || b == b'\t'
 }
 
 // Past the blanks.
-#[tactic(auto, using(crate::proofs::Lexed::skip_space, crate::proofs::Lexed::skip_tab))]
 fn skip(s: &[u8], at: usize) -> usize
     ensures { result ≡ skipped s.now at }
 {
-    if at >= s.len() {
-        return at;
+    for i in at..s.len() {
+        if !is_blank(s[i]) {
+            return i;
+        }
     }
-    let b = s[at];
-    if b == b' ' {
-        return skip(s, at + 1);
-    }
-    if b == b'\t' {
-        return skip(s, at + 1);
-    }
-    at
+    at.max(s.len())
 }
 
-// The rest of an integer whose digits so far are v.
-fn run(s: &[u8], at: usize, v: u64) -> Next
-    ensures { result ≡ ran v s.now at }
+// The integer whose digits begin at a position.
+fn integer(s: &[u8], at: usize) -> Next
+    requires { at < length s.now }
+    ensures { result ≡ ran 0 s.now at }
 {
-    if at >= s.len() {
-        return Next::Number(v, at);
+    let mut v = 0;
+    for i in at..s.len() {
+        if !text_digits::is_digit(s[i]) {
+            return Next::Number(v, i);
+        }
+        let Some(longer) = text_digits::digit_on(v, s[i]) else {
+            return Next::Huge;
+        };
+        v = longer;
     }
-    let b = s[at];
-    if !text_digits::is_digit(b) {
-        return Next::Number(v, at);
-    }
-    let longer = text_digits::digit_on(v, b);
-    let Number::Whole(w) = longer else {
-        return Next::Huge;
-    };
-    run(s, at + 1, w)
-}
-
-// The byte at a position, 0 past the end.
-fn peek(s: &[u8], at: usize) -> u8
-    ensures { result ≡ get_or s.now at 0 }
-{
-    if at < s.len() { s[at] } else { 0 }
+    Next::Number(v, s.len())
 }
 
 // The token that stands next.
@@ -141,31 +104,27 @@ pub fn token_at(s: &[u8], at: usize) -> Next
     ensures { result ≡ next s.now at }
 {
     let i = skip(s, at);
-    if i >= s.len() {
+    let Some(&b) = s.get(i) else {
         return Next::End;
-    }
-    let b = s[i];
+    };
     if text_digits::is_digit(b) {
-        return run(s, i, 0);
+        return integer(s, i);
     }
-    let two = pair(b, peek(s, i + 1), 0);
-    if two != 0 {
-        return Next::Sign(two, i + 2);
+    if let Some(code) = pair(b, &s[i + 1..]) {
+        return Next::Sign(code, i + 2);
     }
-    let one = single(b, 0);
-    if one != 0 {
-        return Next::Sign(one, i + 1);
+    match single(b) {
+        Some(code) => Next::Sign(code, i + 1),
+        None => Next::Mark(b, i + 1),
     }
-    Next::Mark(b, i + 1)
 }
 
 // Past a byte that has to come next.
-pub fn past(s: &[u8], at: usize, c: u8) -> After
+pub fn past(s: &[u8], at: usize, c: u8) -> Option<usize>
     ensures { result ≡ passed c (next s.now at) }
 {
-    let x = token_at(s, at);
-    let Next::Mark(b, e) = x else {
-        return After::Other;
-    };
-    if b == c { After::At(e) } else { After::Other }
+    match token_at(s, at) {
+        Next::Mark(b, e) if b == c => Some(e),
+        _ => None,
+    }
 }

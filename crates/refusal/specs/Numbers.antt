@@ -1,9 +1,9 @@
 -- The numbers of SPEC 2. 0 is none of them; 9 is not given (SPEC 2).
 use Rattle.std.specs.Prelude.{ℕ}
 use Rattle.refusal.specs.declared.Error.{Error}
+use Rattle.refusal.specs.declared.Refusal.{Refusal}
 use Rattle.refusal.specs.declared.Error.TheVariants.{Eof, BadMagic, DecodingError, MalformedMetadata, MisplacedMetadata, PluralParsing, UnknownEncoding, RuleTooLong, ZeroModulus, BadRecord, IndexRoom, NotFit, BadSpan}
-use Rattle.refusal.specs.declared.Outcome.{Outcome}
-use Rattle.refusal.specs.declared.Outcome.TheVariants.{Loaded, Refused}
+use Rattle.std.specs.Prelude.{Result, Ok, Err}
 
 abbrev pub number_of : Error → ℕ
 number_of Eof = 1
@@ -20,6 +20,6 @@ number_of IndexRoom = 12
 number_of NotFit = 13
 number_of BadSpan = 17
 
-abbrev pub outcome_number : Outcome → ℕ
-outcome_number Loaded = 0
-outcome_number (Refused r) = number_of r.error
+abbrev pub outcome_number : Result Unit Refusal → ℕ
+outcome_number (Ok tt) = 0
+outcome_number (Err r) = number_of r.error

@@ -8,8 +8,7 @@ use Rattle.refusal.specs.declared.Side.TheVariants.{Original, Translation, Heade
 use Rattle.refusal.specs.declared.Where.{Where}
 use Rattle.refusal.specs.declared.Where.TheVariants.{File, Forced, Entry}
 use Rattle.refusal.specs.declared.Refusal.{Refusal}
-use Rattle.refusal.specs.declared.Outcome.{Outcome}
-use Rattle.refusal.specs.declared.Outcome.TheVariants.{Loaded, Refused}
+use Rattle.std.specs.Prelude.{Result, Ok, Err}
 
 -- what each place names
 pub record Names : Type 0 where
@@ -38,9 +37,9 @@ abbrev pub in_rule : Where
 in_rule = Entry 0 Rule
 
 -- a load that is not refused names nothing
-abbrev pub outcome_place : Outcome → Where
-outcome_place Loaded = File
-outcome_place (Refused r) = r.place
+abbrev pub outcome_place : Result Unit Refusal → Where
+outcome_place (Ok tt) = File
+outcome_place (Err r) = r.place
 
 -- as numbers: 0 is no side; that an entry is named is said beside its index, as 0 is an index
 abbrev pub side_number : Option Side → ℕ

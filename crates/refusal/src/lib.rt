@@ -5,32 +5,50 @@
 ghost use Rattle.std.specs.Prelude.{◌≡◌};
 ghost use Rattle.refusal.specs.Numbers.{number_of, outcome_number};
 ghost use Rattle.refusal.specs.Places.{at, index_of, side_of, outcome_place, side_number, named, index_or0};
-ghost use Rattle.std.proofs.Math.Option.{some};
+
+use std::fmt;
 
 #[derive(Clone, Copy)]
 pub enum Error {
-    Eof,
-    BadMagic,
-    DecodingError,
-    MalformedMetadata,
-    MisplacedMetadata,
-    PluralParsing,
-    UnknownEncoding,
-    RuleTooLong,
-    ZeroModulus,
-    BadRecord,
-    IndexRoom,
-    NotFit,
-    BadSpan,
+    Eof = 1,
+    BadMagic = 2,
+    DecodingError = 3,
+    MalformedMetadata = 4,
+    MisplacedMetadata = 5,
+    PluralParsing = 6,
+    UnknownEncoding = 7,
+    RuleTooLong = 8,
+    ZeroModulus = 10,
+    BadRecord = 11,
+    IndexRoom = 12,
+    NotFit = 13,
+    BadSpan = 17,
 }
 
 // The sides of an entry.
 #[derive(Clone, Copy)]
 pub enum Side {
-    Original,
-    Translation,
-    Header,
-    Rule,
+    Original = 1,
+    Translation = 2,
+    Header = 3,
+    Rule = 4,
+}
+
+// Its name.
+impl fmt::Display for Side {
+    ghost use Rattle.std.specs.Prelude.{Some};
+    ghost use Rattle.refusal.specs.Texts.{side_text};
+
+    ghost output = { λ side. Some (side_text side) };
+
+    fn fmt<W: fmt::Write>(&self, f: &mut fmt::Formatter<W>) -> fmt::Result {
+        match self {
+            Side::Original => f.write_str("original"),
+            Side::Translation => f.write_str("translation"),
+            Side::Header => f.write_str("header"),
+            Side::Rule => f.write_str("rule"),
+        }
+    }
 }
 
 // Where a load failed: in the file as a whole, in the forced rule, or on a side of an entry, by its index.
@@ -48,31 +66,27 @@ pub struct Refusal {
     pub place: Where,
 }
 
-// How a load stands.
-#[derive(Clone, Copy)]
-pub enum Outcome {
-    Loaded,
-    Refused(Refusal),
+// The number, and after it the entry's index and the side, as far as they are named.
+impl fmt::Display for Refusal {
+    ghost use Rattle.std.specs.Prelude.{Some};
+    ghost use Rattle.refusal.specs.Texts.{refusal_text};
+
+    ghost output = { λ refusal. Some (refusal_text refusal) };
+
+    fn fmt<W: fmt::Write>(&self, f: &mut fmt::Formatter<W>) -> fmt::Result {
+        let number = number_of(self.error);
+        match self.place {
+            Where::File => write!(f, "{number}"),
+            Where::Forced => write!(f, "{number} rule"),
+            Where::Entry(i, side) => write!(f, "{number} {i} {side}"),
+        }
+    }
 }
 
 pub fn number_of(e: Error) -> u32
     ensures { result ≡ number_of e }
 {
-    match e {
-        Error::Eof => 1,
-        Error::BadMagic => 2,
-        Error::DecodingError => 3,
-        Error::MalformedMetadata => 4,
-        Error::MisplacedMetadata => 5,
-        Error::PluralParsing => 6,
-        Error::UnknownEncoding => 7,
-        Error::RuleTooLong => 8,
-        Error::ZeroModulus => 10,
-        Error::BadRecord => 11,
-        Error::IndexRoom => 12,
-        Error::NotFit => 13,
-        Error::BadSpan => 17,
-    }
+    e as u32
 }
 
 pub fn at(place: Where, error: Error) -> Refusal
@@ -94,34 +108,23 @@ pub fn place_of(refusal: Refusal) -> Where
     refusal.place
 }
 
-// 0, or the number of the refusal.
-pub fn outcome_number(outcome: Outcome) -> u32
+// How a load went, as a number: 0, or the number of the refusal.
+pub fn outcome_number(outcome: Result<(), Refusal>) -> u32
     ensures { result ≡ outcome_number outcome }
 {
     match outcome {
-        Outcome::Loaded => 0,
-        Outcome::Refused(refusal) => number_of(error_of(refusal)),
+        Ok(()) => 0,
+        Err(refusal) => number_of(error_of(refusal)),
     }
 }
 
 // Where; a load that is not refused names nothing.
-pub fn outcome_place(outcome: Outcome) -> Where
+pub fn outcome_place(outcome: Result<(), Refusal>) -> Where
     ensures { result ≡ outcome_place outcome }
 {
     match outcome {
-        Outcome::Loaded => Where::File,
-        Outcome::Refused(refusal) => place_of(refusal),
-    }
-}
-
-fn number_of_side(side: Side) -> u32
-    ensures { result ≡ side_number (some side) }
-{
-    match side {
-        Side::Original => 1,
-        Side::Translation => 2,
-        Side::Header => 3,
-        Side::Rule => 4,
+        Ok(()) => Where::File,
+        Err(refusal) => place_of(refusal),
     }
 }
 
@@ -131,8 +134,8 @@ pub fn side_number(place: Where) -> u32
 {
     match place {
         Where::File => 0,
-        Where::Forced => number_of_side(Side::Rule),
-        Where::Entry(i, side) => number_of_side(side),
+        Where::Forced => Side::Rule as u32,
+        Where::Entry(_, side) => side as u32,
     }
 }
 
@@ -140,19 +143,14 @@ pub fn side_number(place: Where) -> u32
 pub fn names_entry(place: Where) -> bool
     ensures { result ≡ named (index_of place) }
 {
-    match place {
-        Where::File => false,
-        Where::Forced => false,
-        Where::Entry(i, side) => true,
-    }
+    matches!(place, Where::Entry(..))
 }
 
 pub fn entry_index(place: Where) -> usize
     ensures { result ≡ index_or0 (index_of place) }
 {
     match place {
-        Where::File => 0,
-        Where::Forced => 0,
-        Where::Entry(i, side) => i,
+        Where::Entry(i, _) => i,
+        _ => 0,
     }
 }

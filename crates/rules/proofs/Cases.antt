@@ -3,10 +3,7 @@
 use Prim.Native.Nat.{ℕ}
 use mathlib.Core.Path.{◌≡◌, refl}
 use mathlib.Core.List.{List, [], ◌∷◌, map}
-use Rattle.rules.specs.declared.Value.{Value}
-use Rattle.rules.specs.declared.Value.TheVariants.{Is, ZeroModulus}
-use Rattle.rules.specs.declared.Rating.{Rating}
-use Rattle.rules.specs.declared.Rating.TheVariants.{Range, Unrated}
+use Rattle.std.specs.Prelude.{Option, Some, None}
 use Rattle.rules.specs.Tree.{Tree, var, int, nay, bin, cond, cmp, and, or, rem, lt, default_tree}
 use Rattle.rules.specs.Value.{binary, negated, chosen, eval_tree}
 use Rattle.rules.specs.Range.{op_range, bin_range, not_range, cond_range, rate_tree}
@@ -16,22 +13,22 @@ abbrev by_count : Tree
 by_count = bin rem (int 7) var
 
 abbrev Row : Type 0
-Row = Tree × Rating × ℕ × Value
+Row = Tree × Option (ℕ × ℕ) × ℕ × Option ℕ
 
 abbrev rows : List Row
 rows =
-    (by_count, Unrated, 0, ZeroModulus)
-    ∷ (by_count, Unrated, 3, Is 1)
+    (by_count, None, 0, None)
+    ∷ (by_count, None, 3, Some 1)
     -- a zero remainder behind && or || has no effect on the value, and unrates the rule; so does an unrated condition, and an arm that is not taken
-    ∷ (bin and (int 0) by_count, Unrated, 0, Is 0)
-    ∷ (bin or (int 1) by_count, Unrated, 0, Is 1)
-    ∷ (cond by_count (int 1) (int 2), Unrated, 0, ZeroModulus)
-    ∷ (cond (int 1) (int 2) by_count, Unrated, 0, Is 2)
+    ∷ (bin and (int 0) by_count, None, 0, Some 0)
+    ∷ (bin or (int 1) by_count, None, 0, Some 1)
+    ∷ (cond by_count (int 1) (int 2), None, 0, None)
+    ∷ (cond (int 1) (int 2) by_count, None, 0, Some 2)
     -- the default rule is 0 for 1, else 1; ! and ?:
-    ∷ (default_tree, Range 0 1, 1, Is 0)
-    ∷ (default_tree, Range 0 1, 0, Is 1)
-    ∷ (nay default_tree, Range 0 1, 1, Is 1)
-    ∷ (cond (bin (cmp lt) var (int 2)) (int 8) (int 9), Range 8 9, 2, Is 9)
+    ∷ (default_tree, Some (0, 1), 1, Some 0)
+    ∷ (default_tree, Some (0, 1), 0, Some 1)
+    ∷ (nay default_tree, Some (0, 1), 1, Some 1)
+    ∷ (cond (bin (cmp lt) var (int 2)) (int 8) (int 9), Some (8, 9), 2, Some 9)
     ∷ []
 
 abbrev computed : Row → Row

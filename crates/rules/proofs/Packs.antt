@@ -5,12 +5,9 @@ use mathlib.Core.Option.{some}
 use Prim.Native.Nat.{ℕ, ◌+◌, ◌-◌, ◌<◌, ◌≤◌}
 use native.Mathlib.Omega.{arith}
 use lib.Dec.{ltb}
+use Rattle.std.specs.Prelude.{Option, Some, None}
 use Rattle.rules.specs.Tree.{Tree, var, int, nay, bin, cond, Op, cmp, and, or, rem, div, calc}
 use Rattle.rules.specs.Operator.{op_of, op_code}
-use Rattle.rules.specs.declared.Number.{Number}
-use Rattle.rules.specs.declared.Number.TheVariants as number
-use Rattle.rules.specs.declared.Small.{Small}
-use Rattle.rules.specs.declared.Small.TheVariants as small
 use Rattle.rules.specs.declared.Left.{Left}
 use Rattle.rules.specs.declared.Left.TheVariants as left
 use Rattle.rules.specs.Pool.{n_op, rest_op, nay_node, value_op, pair_op, ternary_node}
@@ -44,9 +41,9 @@ pub is_two : (op : Op) (v : ℕ) (x y : Tree) → pool.two (pair_op + op_code op
 is_two op v x y = let h = code_in op in two_op _ v x y (op_of_lem op (pair_op + op_code op - pair_op) (omega arith)) (omega arith)
 
 -- what was found in an operand is the operand
-abbrev NumberIs : Tree → Number → Type 0
-NumberIs t (number.Is v) = t ≡ int v
-NumberIs t number.Other = Unit {0}
+abbrev NumberIs : Tree → Option ℕ → Type 0
+NumberIs t (Some v) = t ≡ int v
+NumberIs t None = Unit {0}
 
 number_is : (t : Tree) → NumberIs t (number_of t)
 unfolding number_of
@@ -56,13 +53,13 @@ number_is (nay t) = tt
 number_is (bin op s t) = tt
 number_is (cond s t u) = tt
 
-abbrev SmallIs : Tree → Small → Type 0
-SmallIs t (small.Is m) = t ≡ int m
-SmallIs t small.Other = Unit {0}
+abbrev SmallIs : Tree → Option ℕ → Type 0
+SmallIs t (Some m) = t ≡ int m
+SmallIs t None = Unit {0}
 
-small_by_lem : (t : Tree) (n : Number) → NumberIs t n → SmallIs t (small_by n)
-small_by_lem t (number.Is m) e = either (SmallIs t) (ltb m 65536) e tt
-small_by_lem t number.Other e = tt
+small_by_lem : (t : Tree) (n : Option ℕ) → NumberIs t n → SmallIs t (small_by n)
+small_by_lem t (Some m) e = either (SmallIs t) (ltb m 65536) e tt
+small_by_lem t None e = tt
 
 small_is : (t : Tree) → SmallIs t (small_of t)
 small_is t = small_by_lem t (number_of t) (number_is t)
@@ -72,9 +69,9 @@ LeftIs t left.Count = t ≡ var
 LeftIs t (left.Rest m) = t ≡ bin rem var (int m)
 LeftIs t left.Other = Unit {0}
 
-rest_by_lem : (t : Tree) (n : Small) → SmallIs t n → LeftIs (bin rem var t) (rest_by n)
-rest_by_lem t (small.Is m) e = ap (bin rem var) e
-rest_by_lem t small.Other e = tt
+rest_by_lem : (t : Tree) (n : Option ℕ) → SmallIs t n → LeftIs (bin rem var t) (rest_by n)
+rest_by_lem t (Some m) e = ap (bin rem var) e
+rest_by_lem t None e = tt
 
 rest_is : (op : Op) (s t : Tree) → LeftIs (bin op s t) (elim (is_rem op && is_count s) [ true ↦ rest_by (small_of t) | false ↦ left.Other ])
 unfolding is_rem is_count
@@ -103,17 +100,17 @@ pub record Right (t : Tree) (x : Packed) : Type 0 where
   pub fits : Fits x
   pub few : nodes x ≤ size t
 
-bin_right : (op : Op) (s t : Tree) (l : Left) (n : Number) (x y : Packed) → LeftIs s l → NumberIs t n → Right s x → Right t y
+bin_right : (op : Op) (s t : Tree) (l : Left) (n : Option ℕ) (x y : Packed) → LeftIs s l → NumberIs t n → Right s x → Right t y
     → Right (bin op s t) (pack_bin op l n x y)
 unfolding unpack nodes size
-bin_right op s t left.Count (number.Is v) x y d e f g =
+bin_right op s t left.Count (Some v) x y d e f g =
     let h = code_in op in record { same = rw (d, e) (is_op op 0 v); fits = omega arith; few = omega arith }
-bin_right op s t (left.Rest m) (number.Is v) x y d e f g =
+bin_right op s t (left.Rest m) (Some v) x y d e f g =
     let h = code_in op in record { same = rw (d, e) (is_rest op m v); fits = omega arith; few = omega arith }
-bin_right op s t left.Other (number.Is v) x y d e f g =
+bin_right op s t left.Other (Some v) x y d e f g =
     let h = code_in op in
     record { same = rw (e, f.same) (is_one op 0 v s); fits = (omega arith, omega arith, f.fits); few = omega (arith, f.few) }
-bin_right op s t l number.Other x y d e f g =
+bin_right op s t l None x y d e f g =
     let h = code_in op in
     record {
       same = rw (f.same, g.same) (is_two op 0 s t);
@@ -121,17 +118,17 @@ bin_right op s t l number.Other x y d e f g =
       few = omega (arith, f.few, g.few);
     }
 
-cond_right : (s t u : Tree) (n : Number) (o : Small) (x y z : Packed) → NumberIs t n → SmallIs u o → Right s x → Right t y → Right u z
+cond_right : (s t u : Tree) (n : Option ℕ) (o : Option ℕ) (x y z : Packed) → NumberIs t n → SmallIs u o → Right s x → Right t y → Right u z
     → Right (cond s t u) (pack_cond n o x y z)
 unfolding unpack nodes size
-cond_right s t u (number.Is v) (small.Is m) x y z d e f g h =
+cond_right s t u (Some v) (Some m) x y z d e f g h =
     record { same = rw (d, e, f.same); fits = (omega arith, omega arith, f.fits); few = omega (arith, f.few) }
-cond_right s t u (number.Is v) small.Other x y z d e f g h = record {
+cond_right s t u (Some v) None x y z d e f g h = record {
   same = rw (d, f.same, h.same);
   fits = (omega arith, omega arith, f.fits, h.fits);
   few = omega (arith, f.few, h.few);
 }
-cond_right s t u number.Other o x y z d e f g h = record {
+cond_right s t u None o x y z d e f g h = record {
   same = rw (f.same, g.same, h.same);
   fits = (f.fits, g.fits, h.fits);
   few = omega (arith, f.few, g.few, h.few);

@@ -4,16 +4,20 @@ use mathlib.Core.Path.{refl, sym, ◌∙◌}
 use contract.Lifetimes.{Lfts}
 use denote.Triple.Clauses.{AtExit}
 use Rattle.promise.proofs.One.{One, OneLeft}
-use borrow.Fn.Kinds.{ended_of}
-use Rattle.rules.specs.Pool.{Pool, pool}
-use Rattle.rules.proofs.field.Reads as field
-use Rattle.rules.proofs.field.Kinds as field-kinds
-use Rattle.rules.proofs.place.Reads as place
-use Rattle.rules.proofs.place.Kinds as place-kinds
-use Rattle.rules.proofs.put_default.Reads as put-default
-use Rattle.rules.proofs.put_default.Kinds as put-default-kinds
-use Rattle.rules.proofs.put.Reads as put
-use Rattle.rules.proofs.put.Kinds as put-kinds
+use borrow.Fn.Kinds.{Dens, res_t, ended_of}
+use mathlib.Core.Path.{◌≡◌}
+use Rattle.rules.specs.Pool.{Pool, pool_in}
+use Rattle.rules.specs.Lent.{pool_left}
+use Rattle.rules.proofs.Nodes.field.Reads as field
+use Rattle.rules.proofs.Nodes.field.Kinds as field-kinds
+use Rattle.rules.proofs.Nodes.place.Reads as place
+use Rattle.rules.proofs.Nodes.place.Kinds as place-kinds
+use Rattle.rules.proofs.Lent.put_default.Reads as put-default
+use Rattle.rules.proofs.Lent.put_default.Kinds as put-default-kinds
+use Rattle.rules.proofs.Lent.put.Reads as put
+use Rattle.rules.proofs.Lent.put.Kinds as put-kinds
+use Rattle.rules.proofs.Lent.nodes.Reads as nodes
+use Rattle.rules.proofs.Lent.nodes.Kinds as nodes-kinds
 
 pub field_one : One 1 field-kinds.ps field-kinds.r field.Post
 field_one κs a u v x y p q = p ∙ sym q
@@ -22,14 +26,19 @@ pub place_one : One 1 place-kinds.ps place-kinds.r place.Post
 place_one κs a u v x y p q = p ∙ sym q
 
 -- the arrays that are lent, as a pool
-abbrev pub put_left : (κs : Lfts 3) → AtExit (ended_of 3 put-kinds.ps put-kinds.r) κs → Pool
-put_left κs x = pool x.0.now x.1.0.now x.1.1.0.now
+abbrev pub put_left : (κs : Lfts 2) → AtExit (ended_of 2 put-kinds.ps put-kinds.r) κs → Pool
+put_left κs x = pool_left x.0.now
 
-pub put_one : OneLeft 3 put-kinds.ps put-kinds.r put.Post put_left
-put_one κs a u v x y p q = (refl, p ∙ sym q)
+pub put_one : OneLeft 2 put-kinds.ps put-kinds.r put.Post put_left
+put_one κs a u v x y p q = (refl, p.1 ∙ sym q.1)
 
-abbrev pub default_left : (κs : Lfts 3) → AtExit (ended_of 3 put-default-kinds.ps put-default-kinds.r) κs → Pool
-default_left κs x = pool x.0.now x.1.0.now x.1.1.0.now
+abbrev pub default_left : (κs : Lfts 2) → AtExit (ended_of 2 put-default-kinds.ps put-default-kinds.r) κs → Pool
+default_left κs x = pool_left x.0.now
 
-pub put_default_one : OneLeft 3 put-default-kinds.ps put-default-kinds.r put-default.Post default_left
-put_default_one κs a u v x y p q = (p.1 ∙ sym q.1, p.0 ∙ sym q.0)
+pub put_default_one : OneLeft 2 put-default-kinds.ps put-default-kinds.r put-default.Post default_left
+put_default_one κs a u v x y p q = (p.1.1 ∙ sym q.1.1, p.1.0 ∙ sym q.1.0)
+
+-- what is lent to be read, as a pool
+pub nodes_one : (κs : Lfts 2) (a : Dens κs nodes-kinds.ps) (u v : (res_t nodes-kinds.r κs).Denot) (x y : AtExit (ended_of 2 nodes-kinds.ps nodes-kinds.r) κs)
+    → nodes.Post κs a u x → nodes.Post κs a v y → pool_in u ≡ pool_in v
+nodes_one κs a u v x y p q = p ∙ sym q

@@ -8,3 +8,4 @@ pub mod Pack
 pub mod Answer
 pub mod Reads
 pub mod Promise
+pub mod Lent

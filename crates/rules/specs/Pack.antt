@@ -1,12 +1,8 @@
 -- How a tree is packed, its leaves folded into their parents where a code says so; how a packed tree is unfolded; and where its nodes go.
 -- proofs/Packs.antt: what is packed is unfolded to the same tree; proofs/Stored.antt: and it is the tree that the arrays hold.
-use Rattle.std.specs.Prelude.{ℕ, ◌+◌, ◌-◌, Bool, true, false, ◌&&◌, ltb}
+use Rattle.std.specs.Prelude.{ℕ, ◌+◌, ◌-◌, Bool, true, false, ◌&&◌, ltb, Option, Some, None}
 use Rattle.rules.specs.Tree.{Tree, var, int, nay, bin, cond, Op, cmp, and, or, rem, div, calc}
 use Rattle.rules.specs.Operator.{op_code}
-use Rattle.rules.specs.declared.Number.{Number}
-use Rattle.rules.specs.declared.Number.TheVariants as number
-use Rattle.rules.specs.declared.Small.{Small}
-use Rattle.rules.specs.declared.Small.TheVariants as small
 use Rattle.rules.specs.declared.Left.{Left}
 use Rattle.rules.specs.declared.Left.TheVariants as left
 use Rattle.rules.specs.Pool as pool
@@ -26,19 +22,19 @@ unpack (one c m v x) = pool.one c m v (unpack x)
 unpack (two c v x y) = pool.two c v (unpack x) (unpack y)
 unpack (three x y z) = cond (unpack x) (unpack y) (unpack z)
 
--- what is looked for in an operand: an integer; one that a field can hold; n, or n % m with such an m
-unfoldable pub number_of : Tree → Number
-number_of var = number.Other
-number_of (int v) = number.Is v
-number_of (nay t) = number.Other
-number_of (bin op s t) = number.Other
-number_of (cond s t u) = number.Other
+-- what is looked for in an operand: whether it is an integer, and which; one that a field can hold; n, or n % m with such an m
+unfoldable pub number_of : Tree → Option ℕ
+number_of var = None
+number_of (int v) = Some v
+number_of (nay t) = None
+number_of (bin op s t) = None
+number_of (cond s t u) = None
 
-abbrev pub small_by : Number → Small
-small_by (number.Is m) = elim (ltb m 65536) [ true ↦ small.Is m | false ↦ small.Other ]
-small_by number.Other = small.Other
+abbrev pub small_by : Option ℕ → Option ℕ
+small_by (Some m) = elim (ltb m 65536) [ true ↦ Some m | false ↦ None ]
+small_by None = None
 
-abbrev pub small_of : Tree → Small
+abbrev pub small_of : Tree → Option ℕ
 small_of t = small_by (number_of t)
 
 unfoldable pub is_count : Tree → Bool
@@ -56,9 +52,9 @@ is_rem rem = true
 is_rem div = false
 is_rem (calc c) = false
 
-abbrev pub rest_by : Small → Left
-rest_by (small.Is m) = left.Rest m
-rest_by small.Other = left.Other
+abbrev pub rest_by : Option ℕ → Left
+rest_by (Some m) = left.Rest m
+rest_by None = left.Other
 
 unfoldable pub left_of : Tree → Left
 unfolding number_of is_count is_rem
@@ -69,16 +65,16 @@ left_of (bin op s t) = elim (is_rem op && is_count s) [ true ↦ rest_by (small_
 left_of (cond s t u) = left.Other
 
 -- an operator on s and t, by what they are; x and y are their packed trees
-abbrev pub pack_bin : Op → Left → Number → Packed → Packed → Packed
-pack_bin op left.Count (number.Is v) x y = leaf (n_op + op_code op) 0 v
-pack_bin op (left.Rest m) (number.Is v) x y = leaf (rest_op + op_code op) m v
-pack_bin op left.Other (number.Is v) x y = one (value_op + op_code op) 0 v x
-pack_bin op l number.Other x y = two (pair_op + op_code op) 0 x y
+abbrev pub pack_bin : Op → Left → Option ℕ → Packed → Packed → Packed
+pack_bin op left.Count (Some v) x y = leaf (n_op + op_code op) 0 v
+pack_bin op (left.Rest m) (Some v) x y = leaf (rest_op + op_code op) m v
+pack_bin op left.Other (Some v) x y = one (value_op + op_code op) 0 v x
+pack_bin op l None x y = two (pair_op + op_code op) 0 x y
 
-abbrev pub pack_cond : Number → Small → Packed → Packed → Packed → Packed
-pack_cond (number.Is v) (small.Is m) x y z = one pick_node m v x
-pack_cond (number.Is v) small.Other x y z = two choice_node v x z
-pack_cond number.Other u x y z = three x y z
+abbrev pub pack_cond : Option ℕ → Option ℕ → Packed → Packed → Packed → Packed
+pack_cond (Some v) (Some m) x y z = one pick_node m v x
+pack_cond (Some v) None x y z = two choice_node v x z
+pack_cond None u x y z = three x y z
 
 unfoldable pub pack : Tree → Packed
 unfolding number_of left_of

@@ -12,6 +12,7 @@
 -- into the others. SPEC 8: what makes nodes no tree, a code that is not among these first.
 use Rattle.std.specs.Prelude.{ℕ, zero, suc, ◌+◌, ◌*◌, ◌-◌, Bool, true, false, not, ◌&&◌, List, [], ◌∷◌, ◌++◌, get_or, length, leb, ltb, eqb}
 use Rattle.std.proofs.Math.Option.{Option, none, some}
+use Rattle.rules.specs.declared.Nodes.{Nodes}
 use Rattle.rules.specs.Tree.{Tree, var, int, nay, bin, cond, Op, rem}
 use Rattle.rules.specs.Operator.{operators, op_of}
 
@@ -23,6 +24,10 @@ pub record Pool : Type 0 where
 
 abbrev pub pool : List ℕ → List ℕ → List ℕ → Pool
 pool c p v = record { codes = c; places = p; values = v }
+
+-- the pool that nodes are lent as
+abbrev pub pool_in : Nodes → Pool
+pool_in n = pool n.codes.now n.places.now n.values.now
 
 abbrev pub code : Pool → ℕ → ℕ
 code P p = get_or P.codes p 0

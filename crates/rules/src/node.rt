@@ -32,7 +32,8 @@ pub const TERNARY: u8 = CHOICE + 1;
 // How many binary operators there are, and so codes of each group of theirs.
 pub const OPERATORS: u8 = 13;
 
-// Their numbers, with the names of the Rust's `Operator`. `operators` of specs/Operator.antt has them in this order.
+// Their numbers, with the names of the Rust's `Operator`. `operators` of specs/Operator.antt has them in this order. Codes and operators are numbers
+// and no enums, since a host keeps them in its arrays and may alter them: what reads a code tests it by comparing it with the first of a group.
 pub const EQUAL: u8 = 0;
 
 pub const NOT_EQUAL: u8 = 1;

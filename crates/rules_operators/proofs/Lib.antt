@@ -1,4 +1,4 @@
-mod Halves
 pub mod Operators
 pub mod Given
 pub mod Unique
+pub mod Halves

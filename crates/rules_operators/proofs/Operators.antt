@@ -1,11 +1,10 @@
 -- Laws of the binary operators by their numbers, as an evaluation asks for them.
+use Rattle.std.specs.Prelude.{Option, Some, None}
 use Rattle.std.proofs.Common.{◌≡◌, ℕ, ◌+◌, ◌-◌, ◌%◌, ◌^◌, ◌<◌, ◌≤◌, true, false, eqb, sym, refl, arith}
-use mathlib.Core.Option.{Option, none, some}
+use mathlib.Core.Option.{Option as Maybe, none, some}
 use mathlib.Core.Logic.{by_cases}
 use native.Mathlib.Decide.{ℕ_discrete}
 use borrow.Author.Tests.{not-true, not-false}
-use Rattle.rules.specs.declared.Value.{Value}
-use Rattle.rules.specs.declared.Value.TheVariants.{Is, ZeroModulus}
 use Rattle.rules.specs.Tree.{Op, cmp, calc, and, or, rem, div, Cmp, eq, ne, ge, le, gt, lt, Calc, plus, minus, times}
 use Rattle.rules.specs.Value.{binary, truth_v}
 use Rattle.rules.specs.Operator.{op_of, op_at, op_code}
@@ -68,11 +67,11 @@ unfolding op_of op_at
 is_div i op e h l n = op_at_lem i 9 e (omega arith) refl
 
 -- what a difference that wraps is
-pub differs : (x y r : ℕ) → (r + y) % 2 ^ 64 ≡ x → r < 2 ^ 64 → x < 2 ^ 64 → y < 2 ^ 64 → r ≡ (2 ^ 64 + x - y) % 2 ^ 64
-differs x y r e h k l = omega arith
+pub differs : (x y : ℕ) → y < 2 ^ 64 → (x + (2 ^ 64 - y)) % 2 ^ 64 ≡ (2 ^ 64 + x - y) % 2 ^ 64
+differs x y h = omega arith
 
 -- a zero divisor
-pub by_zero : (i : ℕ) (op : Op) (x : ℕ) → op_of i ≡ some op → 7 < i → i < 10 → binary op (Is x) (Is 0) ≡ ZeroModulus
+pub by_zero : (i : ℕ) (op : Op) (x : ℕ) → op_of i ≡ some op → 7 < i → i < 10 → binary op (Some x) (Some 0) ≡ None
 unfolding binary op_of op_at
 by_zero i op x e h l = by_cases (ℕ_discrete i 8) (λ q. rw (op_at_lem i 8 e q refl)) (λ q. rw (is_div i op e h l q))
 
@@ -81,7 +80,7 @@ pub settled_rest : (i x : ℕ) → (i ≡ 6 → ⊥) → (i ≡ 7 → ⊥) → s
 unfolding settled op_code
 settled_rest i x a o = go (op_of i) refl
   where
-    go : (p : Option Op) → op_of i ≡ p → settled_by p x ≡ false
+    go : (p : Maybe Op) → op_of i ≡ p → settled_by p x ≡ false
     go none e = refl
     go (some (cmp k)) e = refl
     go (some and) e = absurd (a (sym (code_is i and e)))
@@ -91,7 +90,7 @@ settled_rest i x a o = go (op_of i) refl
     go (some (calc c)) e = refl
 
 -- what the left operand settles, no right operand changes
-pub settled_any : (op : Op) (x : ℕ) (v : Value) → settled op x ≡ true → binary op (Is x) v ≡ binary op (Is x) (Is 0)
+pub settled_any : (op : Op) (x : ℕ) (v : Option ℕ) → settled op x ≡ true → binary op (Some x) v ≡ binary op (Some x) (Some 0)
 unfolding settled binary
 settled_any (cmp k) x v e = never e
 settled_any and x v e = rw e
@@ -101,7 +100,7 @@ settled_any div x v e = never e
 settled_any (calc c) x v e = never e
 
 -- what it does not settle fails where the right operand does
-pub unsettled : (op : Op) (x : ℕ) → settled op x ≡ false → binary op (Is x) ZeroModulus ≡ ZeroModulus
+pub unsettled : (op : Op) (x : ℕ) → settled op x ≡ false → binary op (Some x) None ≡ None
 unfolding settled binary truth_v
 unsettled (cmp k) x e = refl
 unsettled and x e = rw e

@@ -1,21 +1,18 @@
 // A rule's operators on numbers. A port of plurals.rs: `resolve`, the arms of `Ast::Op`.
 #![tactic(auto)]
 
-ghost use Rattle.std.specs.Prelude.{◌≡◌, ◌*◌, ◌%◌, ◌^◌};
+ghost use Rattle.std.specs.Prelude.{◌≡◌};
 ghost use Rattle.rules.specs.Value.{truth};
 ghost use Rattle.rules.specs.Operator.{op_of, Named};
 ghost use Rattle.rules_operators.specs.Operator.{settled_by, Compares, Calculates, Applies};
 
 use rules::node;
 
-// 2^32: half of a number has so many values.
-const HALF: u64 = 0x1_0000_0000;
-
 // A truth as a number.
 pub fn truth(b: bool) -> u64
     ensures { result ≡ truth b }
 {
-    if b { 1 } else { 0 }
+    u64::from(b)
 }
 
 // Whether the left operand alone settles a binary operator.
@@ -43,26 +40,19 @@ fn compares(op: u8, x: u64, y: u64) -> bool
     }
 }
 
-// A product modulo 2^64, by the halves of its factors. The product of the upper halves has no part in it.
-fn times(x: u64, y: u64) -> u64
-    ensures { result ≡ (x * y) % 2 ^ 64 }
-{
-    let upper = std::num::wrapping_add_u64((x / HALF) * (y % HALF), (x % HALF) * (y / HALF));
-    std::num::wrapping_add_u64((x % HALF) * (y % HALF), (upper % HALF) * HALF)
-}
-
-// A sum, a difference or a product.
+// A sum, a difference or a product modulo 2^64.
 fn calculates(op: u8, x: u64, y: u64) -> u64
     ensures { Calculates op x y result }
 {
     match op {
-        node::PLUS => std::num::wrapping_add_u64(x, y),
-        node::MINUS => std::num::wrapping_sub_u64(x, y),
-        _ => times(x, y),
+        node::PLUS => x.wrapping_add(y),
+        node::MINUS => x.wrapping_sub(y),
+        _ => x.wrapping_mul(y),
     }
 }
 
 // A binary operator of the table on two numbers. A remainder or a quotient by zero is told by the flag, and the number is 0 and of no use then.
+// A flag beside the number and no `Option`, which made the walk of `rules_value::eval` slower by a tenth to a fifth.
 pub fn apply(op: u8, x: u64, y: u64, zero: &mut bool) -> u64
     requires { Named op }
     ensures { Applies op x y zero.old zero.new result }

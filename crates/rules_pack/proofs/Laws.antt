@@ -8,14 +8,11 @@ use native.Mathlib.Decide.{ℕ_discrete}
 use lib.ListN.{replicate}
 use lib.Dec.{leb, ltb}
 use borrow.Author.Tests.{ne_eqb, lt-leb, leb-true, ltb-true}
+use Rattle.std.specs.Prelude.{Option, Some, None}
 use Rattle.rules.specs.Tree.{Tree, var, int, nay, bin, cond, Op, cmp, and, or, rem, calc, div}
 use Rattle.rules.specs.Operator.{op_of, op_at, op_code, Named}
 use Rattle.rules.specs.Pool.{Pool, pool, code, value, field, tree_of, n_op, rest_op, nay_node, pick_node, value_op, pair_op, choice_node, ternary_node}
 use Rattle.rules.specs.Promise.{plain, Plain}
-use Rattle.rules.specs.declared.Number.{Number}
-use Rattle.rules.specs.declared.Number.TheVariants as number
-use Rattle.rules.specs.declared.Small.{Small}
-use Rattle.rules.specs.declared.Small.TheVariants as small
 use Rattle.rules.specs.declared.Left.{Left}
 use Rattle.rules.specs.declared.Left.TheVariants as left
 use Rattle.rules.specs.Store.{push}
@@ -156,7 +153,7 @@ module _ {P : Pool} {p : ℕ} (s : Plain P p) where
     pub left_no_count : {l : ℕ} → l ≡ field P p 0 → (code P l ≡ 0 → ⊥) → left.Other ≡ left_of (tree_of P p)
     left_no_count d h = sym (rem_here ∙ rw (not_count left_at (rw d at h)))
 
-    pub left_rest : {l : ℕ} {o q : Small} → l ≡ field P p 0 → code P l ≡ 0 → o ≡ small_by (number_at (code P (p - 1)) (value P (p - 1))) → o ≡ q
+    pub left_rest : {l : ℕ} {o q : Option ℕ} → l ≡ field P p 0 → code P l ≡ 0 → o ≡ small_by (number_at (code P (p - 1)) (value P (p - 1))) → o ≡ q
         → rest_by q ≡ left_of (tree_of P p)
     unfolding is_count
     left_rest d h g i = sym (rem_here ∙ rw (tree_var left_at (rw d at h), number_at_lem right_at, ← g) (ap rest_by i))
@@ -188,7 +185,7 @@ module _ {P : Pool} {p : ℕ} (s : Plain P p) where
   unfolding pack
   is_nay e d = record { is = rw (tree_nay s e, d) }
 
-  module _ {l m r : ℕ} {o : Number} (e : code P p ≡ ternary_node) (d : l ≡ field P p 0) (f : m ≡ field P p 1) (g : r ≡ p - 1)
+  module _ {l m r : ℕ} {o : Option ℕ} (e : code P p ≡ ternary_node) (d : l ≡ field P p 0) (f : m ≡ field P p 1) (g : r ≡ p - 1)
       (h : o ≡ number_at (code P m) (value P m)) where
     number_m : number_of (T s m) ≡ o
     number_m = number_at_lem (lower s refl (second_in s.sound (omega arith)) f).1 ∙ sym h
@@ -196,37 +193,37 @@ module _ {P : Pool} {p : ℕ} (s : Plain P p) where
     number_r : number_of (T s r) ≡ number_at (code P r) (value P r)
     number_r = number_at_lem (lower s refl (before_in s.sound (omega arith)) g).1
 
-    cond_is : {i : Number} {q : Small} → o ≡ i → small_by (number_of (T s r)) ≡ q → pack (T s p) ≡ pack_cond i q (pack (T s l)) (pack (T s m)) (pack (T s r))
+    cond_is : {i : Option ℕ} {q : Option ℕ} → o ≡ i → small_by (number_of (T s r)) ≡ q → pack (T s p) ≡ pack_cond i q (pack (T s l)) (pack (T s m)) (pack (T s r))
     unfolding pack
     cond_is i k = rw (tree_cond s e, ← number_m ∙ i, ← k, d, f, g)
 
-    pub is_three : o ≡ number.Other → IsThree (T s p) (T s l) (T s m) (T s r)
+    pub is_three : o ≡ None → IsThree (T s p) (T s l) (T s m) (T s r)
     is_three i = record { is = cond_is i refl }
 
-    pub is_chosen : {v : ℕ} {q : Small} → o ≡ number.Is v → q ≡ small_by (number_at (code P r) (value P r)) → q ≡ small.Other
+    pub is_chosen : {v : ℕ} {q : Option ℕ} → o ≡ Some v → q ≡ small_by (number_at (code P r) (value P r)) → q ≡ None
         → IsTwo (T s p) (T s l) (T s r) choice_node v
     is_chosen i j k = record { is = cond_is i (ap small_by number_r ∙ sym j ∙ k) }
 
-    pub is_picked : {v w : ℕ} {q : Small} → o ≡ number.Is v → q ≡ small_by (number_at (code P r) (value P r)) → q ≡ small.Is w
+    pub is_picked : {v w : ℕ} {q : Option ℕ} → o ≡ Some v → q ≡ small_by (number_at (code P r) (value P r)) → q ≡ Some w
         → IsOne (T s p) (T s l) pick_node w v
     is_picked i j k = record { is = cond_is i (ap small_by number_r ∙ sym j ∙ k) }
 
-  module _ {l r : ℕ} {o : Number} (e : Pair (code P p)) (d : l ≡ field P p 0) (f : r ≡ p - 1) (h : o ≡ number_at (code P r) (value P r)) where
+  module _ {l r : ℕ} {o : Option ℕ} (e : Pair (code P p)) (d : l ≡ field P p 0) (f : r ≡ p - 1) (h : o ≡ number_at (code P r) (value P r)) where
     op_is : op_code (named s e).op ≡ code P p - pair_op
     op_is = code_is (code P p - pair_op) (named s e).op (named s e).is
 
-    bin_is : {k : Left} {i : Number} → left_of (T s l) ≡ k → o ≡ i → pack (T s p) ≡ pack_bin (named s e).op k i (pack (T s l)) (pack (T s r))
+    bin_is : {k : Left} {i : Option ℕ} → left_of (T s l) ≡ k → o ≡ i → pack (T s p) ≡ pack_bin (named s e).op k i (pack (T s l)) (pack (T s r))
     unfolding pack
     bin_is g i =
         let n : number_of (T s r) ≡ o = number_at_lem (lower s refl (before_in s.sound (omega arith)) f).1 ∙ sym h in
         rw (tree_bin s e, ← g, ← n ∙ i, d, f)
 
-    pub is_two : o ≡ number.Other → IsTwo (T s p) (T s l) (T s r) (code P p) 0
+    pub is_two : o ≡ None → IsTwo (T s p) (T s l) (T s r) (code P p) 0
     is_two i =
         let c : pair_op + op_code (named s e).op ≡ code P p = omega (arith, op_is) in
         record { is = bin_is refl i ∙ ap (λ (c : ℕ). two c 0 (pack (T s l)) (pack (T s r))) c }
 
-    module _ {v : ℕ} {n : Left} (i : o ≡ number.Is v) (j : n ≡ left_of (T s l)) where
+    module _ {v : ℕ} {n : Left} (i : o ≡ Some v) (j : n ≡ left_of (T s l)) where
       -- an operator's number stays when its code goes to another group
       moved : (c : ℕ) → c + op_code (named s e).op ≡ c + (code P p - pair_op)
       moved c = omega (arith, op_is, e.0)
@@ -286,11 +283,11 @@ done_three e x y z h j f g =
     }
 
 -- a condition takes the room of its first operand and more
-cond_least : (n : Number) (q : Small) (x y z : Packed) → nodes x < nodes (pack_cond n q x y z)
+cond_least : (n : Option ℕ) (q : Option ℕ) (x y z : Packed) → nodes x < nodes (pack_cond n q x y z)
 unfolding nodes
-cond_least (number.Is v) (small.Is m) x y z = omega arith
-cond_least (number.Is v) small.Other x y z = omega arith
-cond_least number.Other q x y z = omega arith
+cond_least (Some v) (Some m) x y z = omega arith
+cond_least (Some v) None x y z = omega arith
+cond_least None q x y z = omega arith
 
 pub cond_room : {P : Pool} {p l : ℕ} → Plain P p → code P p ≡ ternary_node → l ≡ field P p 0 → packed_size (tree_of P l) < packed_size (tree_of P p)
 unfolding packed_size pack

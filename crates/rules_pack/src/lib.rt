@@ -3,61 +3,51 @@
 #![tactic(auto)]
 
 ghost use Rattle.std.specs.Prelude.{◌≡◌, ◌+◌, ◌-◌, ◌≤◌, ◌<◌, get_or};
-ghost use Rattle.rules.specs.Pool.{pool, tree_of};
+ghost use Rattle.rules.specs.Lent.{Keeps, pool_left};
+ghost use Rattle.rules.specs.Pool.{pool_in, tree_of};
 ghost use Rattle.rules.specs.Promise.{Plain};
 ghost use Rattle.rules.specs.Pack.{left_of, small_by, packed_size, packed};
 ghost use Rattle.rules_pack.specs.Private.{Packs, number_at};
 
-use rules::{Left, Number, Small, node, place, put};
+use rules::{Left, Lent, Nodes, node};
 
 // The integer at a place, if one is there.
-fn number_of<'a>(codes: &'a [u8; 512], values: &'a [u64; 512], at: usize) -> Number
+fn number_of(nodes: &Nodes<'_>, at: usize) -> Option<u64>
     requires { at < 512 }
-    ensures { result ≡ number_at (get_or codes.now at 0) (get_or values.now at 0) }
+    ensures { result ≡ number_at (get_or nodes.now.codes.now at 0) (get_or nodes.now.values.now at 0) }
 {
-    if codes[at] == node::INTEGER {
-        return Number::Is(values[at]);
+    if nodes.codes[at] == node::INTEGER {
+        Some(nodes.values[at])
+    } else {
+        None
     }
-    Number::Other
 }
 
 // The same if a field can hold it.
-fn small_of<'a>(codes: &'a [u8; 512], values: &'a [u64; 512], at: usize) -> Small
+fn small_of(nodes: &Nodes<'_>, at: usize) -> Option<u16>
     requires { at < 512 }
-    ensures { result ≡ small_by (number_at (get_or codes.now at 0) (get_or values.now at 0)) }
+    ensures { result ≡ small_by (number_at (get_or nodes.now.codes.now at 0) (get_or nodes.now.values.now at 0)) }
 {
-    if codes[at] == node::INTEGER {
-        let m = values[at];
-        if m < 65536 {
-            return Small::Is(m as u16);
-        }
-    }
-    Small::Other
+    u16::try_from(number_of(nodes, at)?).ok()
 }
 
 // Whether n or n % m is at a place.
-fn left_of<'a>(
-    codes: &'a [u8; 512],
-    places: &'a [u16; 1024],
-    values: &'a [u64; 512],
-    at: usize,
-) -> Left
-    requires { Plain (pool codes.now places.now values.now) at }
-    ensures { result ≡ left_of (tree_of (pool codes.now places.now values.now) at) }
+fn left_of(nodes: &Nodes<'_>, at: usize) -> Left
+    requires { Plain (pool_in nodes.now) at }
+    ensures { result ≡ left_of (tree_of (pool_in nodes.now) at) }
 {
-    let code = codes[at];
+    let code = nodes.codes[at];
     if code == node::N {
         return Left::Count;
     }
     if code != node::OP + node::MODULO {
         return Left::Other;
     }
-    let first = place(places, at, 0);
-    if codes[first] != node::N {
+    let first = nodes.place(at, 0);
+    if nodes.codes[first] != node::N {
         return Left::Other;
     }
-    let right = small_of(codes, values, at - 1);
-    let Small::Is(m) = right else {
+    let Some(m) = small_of(nodes, at - 1) else {
         return Left::Other;
     };
     Left::Rest(m)
@@ -71,110 +61,82 @@ fn before(k: usize) -> u16
     (k - 1) as u16
 }
 
-// Packs the tree at a place, its nodes from k on, and tells the place after the last.
-fn nodes<'a>(
-    codes: &'a [u8; 512],
-    places: &'a [u16; 1024],
-    values: &'a [u64; 512],
-    at: usize,
-    heads: &mut [u8; 512],
-    fields: &mut [u16; 1024],
-    ints: &mut [u64; 512],
-    k: usize,
-) -> usize
-    requires plain { Plain (pool codes.now places.now values.now) at }
-    requires room { k + packed_size (tree_of (pool codes.now places.now values.now) at) ≤ 512 }
-    ensures { Packs (tree_of (pool codes.now places.now values.now) at) k
-        (pool heads.old fields.old ints.old)
-        (pool heads.new fields.new ints.new) result }
+// Packs the tree at a place, its nodes from k on, and tells the place after the last. The nodes are lent and not handed by value, which a frame of
+// the recursion would copy.
+fn pack_tree(nodes: &Nodes<'_>, at: usize, lent: &mut Lent<'_>, k: usize) -> usize
+    requires plain { Plain (pool_in nodes.now) at }
+    requires room { k + packed_size (tree_of (pool_in nodes.now) at) ≤ 512 }
+    ensures lent { Keeps lent.old lent.new }
+    ensures packed { Packs (tree_of (pool_in nodes.now) at) k
+        (pool_left lent.old) (pool_left lent.new) result }
 {
-    let code = codes[at];
+    let code = nodes.codes[at];
     if code == node::N {
-        put(heads, fields, ints, k, node::N, 0, 0, 0);
+        lent.put(k, node::N, 0, 0, 0);
         return k + 1;
     }
     if code == node::INTEGER {
-        put(heads, fields, ints, k, node::INTEGER, 0, 0, values[at]);
+        lent.put(k, node::INTEGER, 0, 0, nodes.values[at]);
         return k + 1;
     }
     if code == node::NOT {
-        let n = nodes(codes, places, values, at - 1, heads, fields, ints, k);
-        put(heads, fields, ints, n, node::NOT, 0, 0, 0);
+        let n = pack_tree(nodes, at - 1, lent, k);
+        lent.put(n, node::NOT, 0, 0, 0);
         return n + 1;
     }
-    let first = place(places, at, 0);
+    let first = nodes.place(at, 0);
     if code == node::TERNARY {
-        let second = place(places, at, 1);
-        let number = number_of(codes, values, second);
-        let m = nodes(codes, places, values, first, heads, fields, ints, k);
-        let Number::Is(v) = number else {
-            let l = nodes(codes, places, values, second, heads, fields, ints, m);
-            let n = nodes(codes, places, values, at - 1, heads, fields, ints, l);
-            put(
-                heads,
-                fields,
-                ints,
-                n,
-                node::TERNARY,
-                before(m),
-                before(l),
-                0,
-            );
+        let second = nodes.place(at, 1);
+        let m = pack_tree(nodes, first, lent, k);
+        let Some(v) = number_of(nodes, second) else {
+            let l = pack_tree(nodes, second, lent, m);
+            let n = pack_tree(nodes, at - 1, lent, l);
+            lent.put(n, node::TERNARY, before(m), before(l), 0);
             return n + 1;
         };
-        let small = small_of(codes, values, at - 1);
-        let Small::Is(w) = small else {
-            let n = nodes(codes, places, values, at - 1, heads, fields, ints, m);
-            put(heads, fields, ints, n, node::CHOICE, before(m), 0, v);
+        let Some(w) = small_of(nodes, at - 1) else {
+            let n = pack_tree(nodes, at - 1, lent, m);
+            lent.put(n, node::CHOICE, before(m), 0, v);
             return n + 1;
         };
-        put(heads, fields, ints, m, node::PICK, w, 0, v);
+        lent.put(m, node::PICK, w, 0, v);
         return m + 1;
     }
-    let number = number_of(codes, values, at - 1);
-    let Number::Is(v) = number else {
-        let m = nodes(codes, places, values, first, heads, fields, ints, k);
-        let n = nodes(codes, places, values, at - 1, heads, fields, ints, m);
-        put(heads, fields, ints, n, code, before(m), 0, 0);
+    let Some(v) = number_of(nodes, at - 1) else {
+        let m = pack_tree(nodes, first, lent, k);
+        let n = pack_tree(nodes, at - 1, lent, m);
+        lent.put(n, code, before(m), 0, 0);
         return n + 1;
     };
-    let left = left_of(codes, places, values, first);
     let op = code - node::OP;
-    match left {
+    match left_of(nodes, first) {
         Left::Count => {
-            put(heads, fields, ints, k, node::N_OP + op, 0, 0, v);
+            lent.put(k, node::N_OP + op, 0, 0, v);
             k + 1
         }
         Left::Rest(m) => {
-            put(heads, fields, ints, k, node::REST_OP + op, m, 0, v);
+            lent.put(k, node::REST_OP + op, m, 0, v);
             k + 1
         }
         Left::Other => {
-            let n = nodes(codes, places, values, first, heads, fields, ints, k);
-            put(heads, fields, ints, n, node::VALUE_OP + op, 0, 0, v);
+            let n = pack_tree(nodes, first, lent, k);
+            lent.put(n, node::VALUE_OP + op, 0, 0, v);
             n + 1
         }
     }
 }
 
 // Packs the rule that a reader left, whose root is at a place; how many nodes it has then.
-pub fn pack<'a>(
-    codes: &'a [u8; 512],
-    places: &'a [u16; 1024],
-    values: &'a [u64; 512],
-    root: usize,
-    heads: &mut [u8; 512],
-    fields: &mut [u16; 1024],
-    ints: &mut [u64; 512],
-) -> usize
-    requires plain { Plain (pool codes.now places.now values.now) root }
-    requires room { packed_size (tree_of (pool codes.now places.now values.now) root) ≤ 512 }
-    ensures nodes { pool heads.new fields.new ints.new ≡
-        packed (tree_of (pool codes.now places.now values.now) root) }
-    ensures count { result ≡ packed_size (tree_of (pool codes.now places.now values.now) root) }
+pub fn pack(nodes: Nodes<'_>, root: usize, lent: &mut Lent<'_>) -> usize
+    requires plain { Plain (pool_in nodes) root }
+    requires room { packed_size (tree_of (pool_in nodes) root) ≤ 512 }
+    ensures lent { Keeps lent.old lent.new }
+    ensures nodes { pool_left lent.new ≡
+        packed (tree_of (pool_in nodes.entry) root) }
+    ensures count { result ≡ packed_size (tree_of (pool_in nodes.entry) root) }
 {
-    *heads = [0u8; 512];
-    *fields = [0u16; 1024];
-    *ints = [0u64; 512];
-    nodes(codes, places, values, root, heads, fields, ints, 0)
+    *lent.codes = [0u8; 512];
+    *lent.places = [0u16; 1024];
+    *lent.values = [0u64; 512];
+    pack_tree(&nodes, root, lent, 0)
 }

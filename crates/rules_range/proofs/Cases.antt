@@ -2,20 +2,15 @@
 use Prim.Native.Nat.{ℕ, ◌+◌}
 use mathlib.Core.Path.{◌≡◌, refl}
 use mathlib.Core.List.{List, [], ◌∷◌, map}
-use Rattle.rules.specs.declared.Resolved.{Resolved}
-use Rattle.rules.specs.declared.Resolved.TheVariants as resolved
-use Rattle.rules.specs.declared.Resolved.TheVariants.{Form}
-use Rattle.rules.specs.declared.Rated.{Rated}
-use Rattle.rules.specs.declared.Rated.TheVariants as rated
-use Rattle.rules.specs.declared.Rated.TheVariants.{Range, Unrated}
-use Rattle.rules.specs.declared.Fit.{Fit}
-use Rattle.rules.specs.declared.Fit.TheVariants as fit
-use Rattle.rules.specs.declared.Fit.TheVariants.{Yes, No}
+use Rattle.std.specs.Prelude.{Bool, true, false, Option, Some, None, Result, Ok, Err}
+use Rattle.rules.specs.declared.NoForm.{NoForm}
+use Rattle.rules.specs.declared.NoForm.TheVariants as no_form
+use Rattle.rules.specs.declared.NoTree.{NoTree}
 use Rattle.rules.specs.Value.{calculated, binary, negated, chosen, truth_v, eval_tree}
 use Rattle.rules.specs.Range.{kept, op_range, bin_range, cond_range, not_range, rate_tree, fits_range}
 use Rattle.rules.specs.Operator.{op_at, op_of}
 use Rattle.rules.specs.Pool.{Pool, pool, tree_at, tree_of, operands_to, operands, all_below, used, member, distinct, shaped, is_tree, n_op, rest_op, nay_node, pick_node, value_op, pair_op, choice_node, ternary_node}
-use Rattle.rules.specs.Answer.{resolved_of, rated_of, fit_of}
+use Rattle.rules.specs.Answer.{no_tree, resolved_of, rated_of, fit_of}
 
 -- a node alone, with m in its first field and the value v, and such a node over n
 abbrev alone : ℕ → ℕ → ℕ → Pool × ℕ × ℕ
@@ -41,49 +36,49 @@ reached = (pool (1 ∷ 1 ∷ 1 ∷ (pair_op + 8) ∷ (pair_op + 6) ∷ []) (0 �
 
 -- the pool, its count and its root; the range; a number, and whether it fits it; the values at 0, 1 and 2
 abbrev Row : Type 0
-Row = (Pool × ℕ × ℕ) × Rated × (ℕ × Fit) × Resolved × Resolved × Resolved
+Row = (Pool × ℕ × ℕ) × Result (Option (ℕ × ℕ)) NoTree × (ℕ × Result Bool NoTree) × Result ℕ NoForm × Result ℕ NoForm × Result ℕ NoForm
 
 abbrev rows : List Row
 rows =
     -- n; an integer; each operator on n and an integer
-    (alone 0 0 7, Range 0 18446744073709551615, (18446744073709551615, No), Form 0, Form 1, Form 2)
-    ∷ (alone 1 0 7, Range 7 7, (7, No), Form 7, Form 7, Form 7)
-    ∷ (alone n_op 0 1, Range 0 1, (2, Yes), Form 0, Form 1, Form 0)
-    ∷ (alone (n_op + 1) 0 1, Range 0 1, (2, Yes), Form 1, Form 0, Form 1)
-    ∷ (alone (n_op + 2) 0 1, Range 0 1, (1, No), Form 0, Form 1, Form 1)
-    ∷ (alone (n_op + 3) 0 1, Range 0 1, (0, No), Form 1, Form 1, Form 0)
-    ∷ (alone (n_op + 4) 0 1, Range 0 1, (2, Yes), Form 0, Form 0, Form 1)
-    ∷ (alone (n_op + 5) 0 1, Range 0 1, (2, Yes), Form 1, Form 0, Form 0)
-    ∷ (alone (n_op + 6) 0 2, Range 0 1, (2, Yes), Form 0, Form 1, Form 1)
-    ∷ (alone (n_op + 7) 0 0, Range 0 1, (2, Yes), Form 0, Form 1, Form 1)
-    ∷ (alone (n_op + 8) 0 7, Range 0 6, (7, Yes), Form 0, Form 1, Form 2)
+    (alone 0 0 7, Ok (Some (0, 18446744073709551615)), (18446744073709551615, Ok false), Ok 0, Ok 1, Ok 2)
+    ∷ (alone 1 0 7, Ok (Some (7, 7)), (7, Ok false), Ok 7, Ok 7, Ok 7)
+    ∷ (alone n_op 0 1, Ok (Some (0, 1)), (2, Ok true), Ok 0, Ok 1, Ok 0)
+    ∷ (alone (n_op + 1) 0 1, Ok (Some (0, 1)), (2, Ok true), Ok 1, Ok 0, Ok 1)
+    ∷ (alone (n_op + 2) 0 1, Ok (Some (0, 1)), (1, Ok false), Ok 0, Ok 1, Ok 1)
+    ∷ (alone (n_op + 3) 0 1, Ok (Some (0, 1)), (0, Ok false), Ok 1, Ok 1, Ok 0)
+    ∷ (alone (n_op + 4) 0 1, Ok (Some (0, 1)), (2, Ok true), Ok 0, Ok 0, Ok 1)
+    ∷ (alone (n_op + 5) 0 1, Ok (Some (0, 1)), (2, Ok true), Ok 1, Ok 0, Ok 0)
+    ∷ (alone (n_op + 6) 0 2, Ok (Some (0, 1)), (2, Ok true), Ok 0, Ok 1, Ok 1)
+    ∷ (alone (n_op + 7) 0 0, Ok (Some (0, 1)), (2, Ok true), Ok 0, Ok 1, Ok 1)
+    ∷ (alone (n_op + 8) 0 7, Ok (Some (0, 6)), (7, Ok true), Ok 0, Ok 1, Ok 2)
     -- n % 2 != 1; n % 0 == 0; n % 9 % 2
-    ∷ (alone (rest_op + 1) 2 1, Range 0 1, (2, Yes), Form 1, Form 0, Form 1)
-    ∷ (alone rest_op 0 0, Unrated, (2, No), resolved.ZeroModulus, resolved.ZeroModulus, resolved.ZeroModulus)
-    ∷ (alone (rest_op + 8) 9 2, Range 0 1, (2, Yes), Form 0, Form 1, Form 0)
+    ∷ (alone (rest_op + 1) 2 1, Ok (Some (0, 1)), (2, Ok true), Ok 1, Ok 0, Ok 1)
+    ∷ (alone rest_op 0 0, Ok None, (2, Ok false), Err no_form.ZeroModulus, Err no_form.ZeroModulus, Err no_form.ZeroModulus)
+    ∷ (alone (rest_op + 8) 9 2, Ok (Some (0, 1)), (2, Ok true), Ok 0, Ok 1, Ok 0)
     -- over n: !; ? 3 : 8; % 2
-    ∷ (over nay_node 8 3, Range 0 1, (2, Yes), Form 1, Form 0, Form 0)
-    ∷ (over pick_node 8 3, Range 3 8, (9, Yes), Form 8, Form 3, Form 3)
-    ∷ (over (value_op + 8) 8 2, Range 0 1, (2, Yes), Form 0, Form 1, Form 0)
+    ∷ (over nay_node 8 3, Ok (Some (0, 1)), (2, Ok true), Ok 1, Ok 0, Ok 0)
+    ∷ (over pick_node 8 3, Ok (Some (3, 8)), (9, Ok true), Ok 8, Ok 3, Ok 3)
+    ∷ (over (value_op + 8) 8 2, Ok (Some (0, 1)), (2, Ok true), Ok 0, Ok 1, Ok 0)
     -- n < 5; n ? 3 : 5; 7 % n
-    ∷ (count_first (pair_op + 5) 3, Range 0 1, (2, Yes), Form 1, Form 1, Form 1)
-    ∷ (count_first choice_node 3, Range 3 5, (5, No), Form 5, Form 3, Form 3)
-    ∷ (integer_first (pair_op + 8), Unrated, (7, No), resolved.ZeroModulus, Form 0, Form 1)
-    ∷ (choice, Range 0 4, (5, Yes), Form 0, Form 1, Form 2)
-    ∷ (reached, Unrated, (2, No), resolved.ZeroModulus, resolved.ZeroModulus, resolved.ZeroModulus)
+    ∷ (count_first (pair_op + 5) 3, Ok (Some (0, 1)), (2, Ok true), Ok 1, Ok 1, Ok 1)
+    ∷ (count_first choice_node 3, Ok (Some (3, 5)), (5, Ok false), Ok 5, Ok 3, Ok 3)
+    ∷ (integer_first (pair_op + 8), Ok None, (7, Ok false), Err no_form.ZeroModulus, Ok 0, Ok 1)
+    ∷ (choice, Ok (Some (0, 4)), (5, Ok true), Ok 0, Ok 1, Ok 2)
+    ∷ (reached, Ok None, (2, Ok false), Err no_form.ZeroModulus, Err no_form.ZeroModulus, Err no_form.ZeroModulus)
     -- n / 2, n + 1, n - 1, n * 2; n % 9 / 2, n % 9 + 2, n % 9 - 2, n % 9 * 2
-    ∷ (alone (n_op + 9) 0 2, Range 0 0x7fffffffffffffff, (2, No), Form 0, Form 0, Form 1)
-    ∷ (alone (n_op + 10) 0 1, Range 0 0xffffffffffffffff, (2, No), Form 1, Form 2, Form 3)
-    ∷ (alone (n_op + 11) 0 1, Range 0 0xffffffffffffffff, (2, No), Form 0xffffffffffffffff, Form 0, Form 1)
-    ∷ (alone (n_op + 12) 0 2, Range 0 0xffffffffffffffff, (2, No), Form 0, Form 2, Form 4)
-    ∷ (alone (rest_op + 9) 9 2, Range 0 4, (5, Yes), Form 0, Form 0, Form 1)
-    ∷ (alone (rest_op + 10) 9 2, Range 2 10, (11, Yes), Form 2, Form 3, Form 4)
-    ∷ (alone (rest_op + 11) 9 2, Range 0 0xffffffffffffffff, (2, No), Form 0xfffffffffffffffe, Form 0xffffffffffffffff, Form 0)
-    ∷ (alone (rest_op + 12) 9 2, Range 0 16, (17, Yes), Form 0, Form 2, Form 4)
+    ∷ (alone (n_op + 9) 0 2, Ok (Some (0, 0x7fffffffffffffff)), (2, Ok false), Ok 0, Ok 0, Ok 1)
+    ∷ (alone (n_op + 10) 0 1, Ok (Some (0, 0xffffffffffffffff)), (2, Ok false), Ok 1, Ok 2, Ok 3)
+    ∷ (alone (n_op + 11) 0 1, Ok (Some (0, 0xffffffffffffffff)), (2, Ok false), Ok 0xffffffffffffffff, Ok 0, Ok 1)
+    ∷ (alone (n_op + 12) 0 2, Ok (Some (0, 0xffffffffffffffff)), (2, Ok false), Ok 0, Ok 2, Ok 4)
+    ∷ (alone (rest_op + 9) 9 2, Ok (Some (0, 4)), (5, Ok true), Ok 0, Ok 0, Ok 1)
+    ∷ (alone (rest_op + 10) 9 2, Ok (Some (2, 10)), (11, Ok true), Ok 2, Ok 3, Ok 4)
+    ∷ (alone (rest_op + 11) 9 2, Ok (Some (0, 0xffffffffffffffff)), (2, Ok false), Ok 0xfffffffffffffffe, Ok 0xffffffffffffffff, Ok 0)
+    ∷ (alone (rest_op + 12) 9 2, Ok (Some (0, 16)), (17, Ok true), Ok 0, Ok 2, Ok 4)
     -- 7 / n
-    ∷ (integer_first (pair_op + 9), Unrated, (7, No), resolved.ZeroModulus, Form 7, Form 3)
+    ∷ (integer_first (pair_op + 9), Ok None, (7, Ok false), Err no_form.ZeroModulus, Ok 7, Ok 3)
     -- no tree: an unknown code
-    ∷ (alone (ternary_node + 1) 0 1, rated.NoTree, (2, fit.NoTree), resolved.NoTree, resolved.NoTree, resolved.NoTree)
+    ∷ (alone (ternary_node + 1) 0 1, Err no_tree, (2, Err no_tree), Err no_form.NoTree, Err no_form.NoTree, Err no_form.NoTree)
     ∷ []
 
 abbrev computed : Row → Row

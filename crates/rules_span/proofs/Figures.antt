@@ -1,5 +1,5 @@
 -- The figures of a span: each line has those counts that fall on it, and they add up to the counts. Assumes nothing.
-use Prim.Native.Nat.{ℕ, zero, suc, ◌+◌, ◌-◌, ◌<◌, ◌≤◌, ◌^◌}
+use Prim.Native.Nat.{ℕ, zero, suc, ◌+◌, ◌-◌, ◌<◌, ◌≤◌, ◌^◌, min}
 use mathlib.Core.Path.{◌≡◌, refl, sym, ap, ◌∙◌}
 use mathlib.Core.Bool.{Bool, true, false}
 use mathlib.Core.List.{List, [], ◌∷◌}
@@ -7,33 +7,27 @@ use native.Mathlib.Omega.{arith}
 use lib.ListN.{length, get_or, length-set, get_or-replicate}
 use lib.Seq.{get_or-set_same, get_or-set_other}
 use lib.Dec.{ltb, eqb}
-use borrow.Author.Tests.{ltb-true, ltb-false, lt-ltb, le-ltb, le-leb, lt-leb, eqb-true, eqb-false}
-use Rattle.text.proofs.Tests.{taken, left}
-use Rattle.rules.specs.declared.Value.{Value}
-use Rattle.rules.specs.declared.Value.TheVariants as value
+use borrow.Author.Tests.{ltb-true, ltb-false, le-leb, lt-leb, eqb-true, eqb-false}
+use Rattle.text.proofs.Tests.{by_test, taken, left}
+use Rattle.std.specs.Prelude.{Option, Some, None, Ok, Err}
 use Rattle.rules.specs.Tree.{Tree}
 use Rattle.rules.specs.Value.{eval_tree, truth}
 use Rattle.rules.specs.Pool.{Pool, tree_of, is_tree}
 use Rattle.rules_span.specs.Span.{line_of, no_figures, bump, tallied, falls, total, is_span, tally_of, figures_of}
-use Rattle.rules_span.specs.declared.Counting.TheVariants.{Counted, BadSpan, NoTree}
+use Rattle.rules_span.specs.declared.Uncounted.TheVariants.{BadSpan, NoTree}
 
 -- a value's line
-pub line_low : {x : ℕ} → x < 16 → line_of (value.Is x) ≡ x
+pub line_min : (x : ℕ) → line_of (Some x) ≡ min x 16
 unfolding line_of
-line_low {x} h = taken x 16 (lt-ltb x 16 h)
+line_min x =
+    by_test (line_of (Some x) ≡ min x 16) (ltb x 16)
+    (λ e. let h = ltb-true x 16 e in taken _ _ e ∙ omega arith)
+    (λ e. let h = ltb-false x 16 e in left _ _ e ∙ omega arith)
 
-pub line_high : {x : ℕ} → 16 ≤ x → line_of (value.Is x) ≡ 16
+pub line_in : (v : Option ℕ) → line_of v < 18
 unfolding line_of
-line_high {x} h = left x 16 (le-ltb x 16 h)
-
-pub line_in : (v : Value) → line_of v < 18
-unfolding line_of
-line_in (value.Is x) = go (ltb x 16) refl
-  where
-    go : (b : Bool) → ltb x 16 ≡ b → line_of (value.Is x) < 18
-    go true e = let h = ltb-true x 16 e in rw (line_low h) (omega arith)
-    go false e = rw (line_high (ltb-false x 16 e)) (omega arith)
-line_in value.ZeroModulus = omega arith
+line_in (Some x) = rw (line_min x) (omega arith)
+line_in None = omega arith
 
 -- figures and their total
 at_most : (l : List ℕ) (i : ℕ) → get_or l i 0 ≤ total l
@@ -81,7 +75,7 @@ module _ (t : Tree) (a : ℕ) where
           rw e (get_or-set_other (tallied t a k) (line_of (eval_tree t (a + k))) i _ 0 (λ q. n (sym q)) ∙ d ∙ omega arith)
 
 -- as the loop has them
-pub line_of_in : (v : Value) {line : ℕ} → line ≡ line_of v → line < 18
+pub line_of_in : (v : Option ℕ) {line : ℕ} → line ≡ line_of v → line < 18
 line_of_in v e = rw e (line_in v)
 
 module _ (t : Tree) (a : ℕ) where
@@ -92,7 +86,7 @@ module _ (t : Tree) (a : ℕ) where
   pub room : (k line : ℕ) {figures : List ℕ} → figures ≡ tallied t a k → k < 1000000 → get_or figures line 0 + 1 < 2 ^ 64
   room k line e h = rw e (let l = tallied_few t a k line in omega arith)
 
-  pub counted_on : (k : ℕ) {figures after : List ℕ} {v : Value} {line : ℕ} → figures ≡ tallied t a k → v ≡ eval_tree t (a + k) → line ≡ line_of v → after ≡ bump figures line
+  pub counted_on : (k : ℕ) {figures after : List ℕ} {v : Option ℕ} {line : ℕ} → figures ≡ tallied t a k → v ≡ eval_tree t (a + k) → line ≡ line_of v → after ≡ bump figures line
       → after ≡ tallied t a (k + 1)
   unfolding tallied
   counted_on k e d f g =
@@ -101,22 +95,22 @@ module _ (t : Tree) (a : ℕ) where
 
 -- what a span answers
 module _ (P : Pool) (nodes root a b : ℕ) where
-  pub no_tree : is_tree P nodes root ≡ false → (NoTree ≡ tally_of P nodes root a b) × (no_figures ≡ figures_of P nodes root a b)
+  pub no_tree : is_tree P nodes root ≡ false → (Err NoTree ≡ tally_of P nodes root a b) × (no_figures ≡ figures_of P nodes root a b)
   unfolding figures_of
   no_tree e = rw (tally_of, e) (refl, refl)
 
-  bad : is_tree P nodes root ≡ true → is_span a b ≡ false → (BadSpan ≡ tally_of P nodes root a b) × (no_figures ≡ figures_of P nodes root a b)
+  bad : is_tree P nodes root ≡ true → is_span a b ≡ false → (Err BadSpan ≡ tally_of P nodes root a b) × (no_figures ≡ figures_of P nodes root a b)
   unfolding figures_of
   bad e d = rw (tally_of, e, d) (refl, refl)
 
-  pub below : is_tree P nodes root ≡ true → b < a → (BadSpan ≡ tally_of P nodes root a b) × (no_figures ≡ figures_of P nodes root a b)
+  pub below : is_tree P nodes root ≡ true → b < a → (Err BadSpan ≡ tally_of P nodes root a b) × (no_figures ≡ figures_of P nodes root a b)
   unfolding is_span
   below e h = bad e no
     where
       no : is_span a b ≡ false
       no = rw (lt-leb a b h)
 
-  pub long : is_tree P nodes root ≡ true → a ≤ b → 999999 < b - a → (BadSpan ≡ tally_of P nodes root a b) × (no_figures ≡ figures_of P nodes root a b)
+  pub long : is_tree P nodes root ≡ true → a ≤ b → 999999 < b - a → (Err BadSpan ≡ tally_of P nodes root a b) × (no_figures ≡ figures_of P nodes root a b)
   unfolding is_span
   long e h l = bad e no
     where
@@ -124,7 +118,7 @@ module _ (P : Pool) (nodes root a b : ℕ) where
       no = rw (le-leb a b h, lt-leb (b - a) 999999 l)
 
   pub counted : is_tree P nodes root ≡ true → a ≤ b → b - a ≤ 999999 → {figures : List ℕ} → figures ≡ tallied (tree_of P root) a (b - a + 1)
-      → (Counted ≡ tally_of P nodes root a b) × (figures ≡ figures_of P nodes root a b)
+      → (Ok tt ≡ tally_of P nodes root a b) × (figures ≡ figures_of P nodes root a b)
   unfolding figures_of is_span
   counted e h l q = rw (tally_of, e, yes) (refl, q)
     where
@@ -132,6 +126,6 @@ module _ (P : Pool) (nodes root a b : ℕ) where
       yes = rw (le-leb a b h, le-leb (b - a) 999999 l)
 
   -- document 02: "the figures add up to b-a+1"
-  pub figures_add_up : tally_of P nodes root a b ≡ Counted → total (figures_of P nodes root a b) ≡ b - a + 1
+  pub figures_add_up : tally_of P nodes root a b ≡ Ok tt → total (figures_of P nodes root a b) ≡ b - a + 1
   unfolding figures_of
   figures_add_up e = rw e (adds_up (tree_of P root) a (b - a + 1))

@@ -1,20 +1,18 @@
 -- How often each form occurs over a span of counts. SPEC 13: "report how many fall on each form 0 to 15, how many above, and how many
 -- meet a zero remainder". 18 figures, in this order.
-use Rattle.std.specs.Prelude.{ℕ, zero, suc, ◌+◌, ◌-◌, Bool, true, false, ◌&&◌, List, [], ◌∷◌, get_or, set, replicate, leb, ltb, eqb}
+use Rattle.std.specs.Prelude.{ℕ, zero, suc, ◌+◌, ◌-◌, Bool, true, false, ◌&&◌, List, [], ◌∷◌, get_or, set, replicate, leb, ltb, eqb, Option, Some, None, Result, Ok, Err}
 use Rattle.refusal.specs.Numbers.{number_of}
 use Rattle.refusal.specs.declared.Error.TheVariants as error
-use Rattle.rules.specs.declared.Value.{Value}
-use Rattle.rules.specs.declared.Value.TheVariants as value
 use Rattle.rules.specs.Tree.{Tree}
 use Rattle.rules.specs.Value.{eval_tree, truth}
 use Rattle.rules.specs.Pool.{Pool, tree_of, is_tree}
-use Rattle.rules_span.specs.declared.Counting.{Counting}
-use Rattle.rules_span.specs.declared.Counting.TheVariants.{Counted, BadSpan, NoTree}
+use Rattle.rules_span.specs.declared.Uncounted.{Uncounted}
+use Rattle.rules_span.specs.declared.Uncounted.TheVariants.{BadSpan, NoTree}
 
 -- the line that a value counts on
-unfoldable pub line_of : Value → ℕ
-line_of (value.Is form) = elim (ltb form 16) [ true ↦ form | false ↦ 16 ]
-line_of value.ZeroModulus = 17
+unfoldable pub line_of : Option ℕ → ℕ
+line_of (Some form) = elim (ltb form 16) [ true ↦ form | false ↦ 16 ]
+line_of None = 17
 
 abbrev pub no_figures : List ℕ
 no_figures = replicate 18 0
@@ -44,25 +42,24 @@ unfoldable pub is_span : ℕ → ℕ → Bool
 is_span a b = leb a b && leb (b - a) 999999
 
 -- the tree is tested first, then the span
-abbrev pub answer : Bool → Bool → Counting
-answer true true = Counted
-answer true false = BadSpan
-answer false s = NoTree
+abbrev pub answer : Bool → Bool → Result Unit Uncounted
+answer true true = Ok tt
+answer true false = Err BadSpan
+answer false s = Err NoTree
 
-unfoldable pub tally_of : Pool → ℕ → ℕ → ℕ → ℕ → Counting
+unfoldable pub tally_of : Pool → ℕ → ℕ → ℕ → ℕ → Result Unit Uncounted
 unfolding is_span
 tally_of P nodes root a b = answer (is_tree P nodes root) (is_span a b)
 
-abbrev pub number : Counting → ℕ
-number Counted = 0
-number BadSpan = number_of error.BadSpan
-number NoTree = number_of error.BadRecord
+abbrev pub number : Result Unit Uncounted → ℕ
+number (Ok tt) = 0
+number (Err BadSpan) = number_of error.BadSpan
+number (Err NoTree) = number_of error.BadRecord
 
 -- a refusal leaves no figures
-abbrev pub figures_in : Counting → Tree → ℕ → ℕ → List ℕ
-figures_in Counted t a b = tallied t a (b - a + 1)
-figures_in BadSpan t a b = no_figures
-figures_in NoTree t a b = no_figures
+abbrev pub figures_in : Result Unit Uncounted → Tree → ℕ → ℕ → List ℕ
+figures_in (Ok tt) t a b = tallied t a (b - a + 1)
+figures_in (Err e) t a b = no_figures
 
 unfoldable pub figures_of : Pool → ℕ → ℕ → ℕ → ℕ → List ℕ
 unfolding tally_of tallied

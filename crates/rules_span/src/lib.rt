@@ -2,100 +2,82 @@
 #![tactic(auto)]
 
 ghost use Rattle.std.specs.Prelude.{◌≡◌, ◌<◌, ◌≤◌, ◌+◌, ◌^◌, get_or};
-ghost use Rattle.rules.specs.Pool.{pool, tree_of};
+ghost use Rattle.rules.specs.Pool.{pool_in, tree_of};
 ghost use Rattle.rules.specs.Promise.{Sound};
 ghost use Rattle.rules_span.specs.Span.{line_of, bump, tallied, no_figures, tally_of, figures_of, number};
 
 use refusal::Error;
-use rules::Value;
+use rules::{Nodes, Rule};
 
 // The figures of forms 0 to 15, then of those above, then of the counts that meet a zero divisor.
 pub const LINES: usize = 18;
 
+// Why a rule's forms are not counted over a span: it is no span of at most 1,000,000 counts, or the nodes are no tree.
 #[derive(Clone, Copy)]
-pub enum Counting {
-    Counted,
+pub enum Uncounted {
     BadSpan,
     NoTree,
 }
 
 // The line that a value counts on.
-fn line_of(value: Value) -> usize
+#[tactic(auto, using(crate::proofs::Figures::line_min), unfolding(crate::specs::Span::line_of))]
+fn line_of(value: Option<u64>) -> usize
     ensures { result ≡ line_of value }
 {
     match value {
-        Value::Is(form) => { if form < 16 { form as usize } else { 16 } }
-        Value::ZeroModulus => 17,
+        Some(form) => form.min(16) as usize,
+        None => 17,
     }
 }
 
-fn count_one(figures: &mut [u64; 18], line: usize)
+#[tactic(auto, unfolding(crate::specs::Span::bump))]
+fn count_one(figures: &mut [u64; LINES], line: usize)
     requires { (line < 18) × (get_or figures.old line 0 + 1 < 2 ^ 64) }
     ensures { figures.new ≡ bump figures.old line }
 {
-    figures[line] = figures[line] + 1;
+    figures[line] += 1;
 }
 
 // Counts on, from no figures, over the first counts from a on.
-fn count<'a>(
-    codes: &'a [u8; 512],
-    places: &'a [u16; 1024],
-    values: &'a [u64; 512],
-    root: usize,
-    a: u64,
-    many: u64,
-    figures: &mut [u64; 18],
-)
-    requires sound { Sound (pool codes.now places.now values.now) root }
+#[tactic(auto, using(crate::proofs::Figures::line_of_in, crate::proofs::Figures::room, crate::proofs::Figures::counted_on, crate::proofs::Figures::from_none))]
+fn count(nodes: Nodes<'_>, root: usize, a: u64, many: u64, figures: &mut [u64; LINES])
+    requires sound { Sound (pool_in nodes) root }
     requires few { (many ≤ 1000000) × (a + many ≤ 2 ^ 64) }
     requires blank { figures.old ≡ no_figures }
-    ensures { figures.new ≡
-        tallied (tree_of (pool codes.now places.now values.now) root) a many }
+    ensures { figures.new ≡ tallied (tree_of (pool_in nodes.entry) root) a many }
 {
-    let mut k = 0;
-    while k < many {
-        let value = rules_value::value_at(codes, places, values, root, a + k);
-        count_one(figures, line_of(value));
-        k += 1;
+    for k in 0..many {
+        count_one(figures, line_of(rules_value::value_at(nodes, root, a + k)));
     }
 }
 
-// Its number.
-pub fn number_of(counting: Counting) -> u32
-    ensures { result ≡ number counting }
+// How a tally went, as a number: 0, or the number of the refusal.
+pub fn number_of(counted: Result<(), Uncounted>) -> u32
+    ensures { result ≡ number counted }
 {
-    match counting {
-        Counting::Counted => 0,
-        Counting::BadSpan => refusal::number_of(Error::BadSpan),
-        Counting::NoTree => refusal::number_of(Error::BadRecord),
+    match counted {
+        Ok(()) => 0,
+        Err(Uncounted::BadSpan) => refusal::number_of(Error::BadSpan),
+        Err(Uncounted::NoTree) => refusal::number_of(Error::BadRecord),
     }
 }
 
 // How often each form occurs for the counts from a to b, both counted in. The tree is tested once, not at every count.
-pub fn tally<'a>(
-    codes: &'a [u8; 512],
-    places: &'a [u16; 1024],
-    values: &'a [u64; 512],
-    nodes: usize,
-    root: usize,
-    a: u64,
-    b: u64,
-    figures: &mut [u64; 18],
-) -> Counting
-    ensures answer { result ≡ tally_of (pool codes.now places.now values.now) nodes root a b }
+pub fn tally(rule: Rule<'_>, a: u64, b: u64, figures: &mut [u64; LINES]) -> Result<(), Uncounted>
+    ensures answer { result ≡ tally_of (pool_in rule.entry.nodes) rule.entry.count rule.entry.root a b }
     ensures figures { figures.new ≡
-        figures_of (pool codes.now places.now values.now) nodes root a b }
+        figures_of (pool_in rule.entry.nodes) rule.entry.count rule.entry.root a b }
 {
-    *figures = [0u64; 18];
-    if !rules_tree::is_tree(codes, places, nodes, root) {
-        return Counting::NoTree;
+    *figures = [0; LINES];
+    if !rules_tree::is_tree(rule) {
+        return Err(Uncounted::NoTree);
     }
     if b < a {
-        return Counting::BadSpan;
+        return Err(Uncounted::BadSpan);
     }
     if 999_999 < b - a {
-        return Counting::BadSpan;
+        return Err(Uncounted::BadSpan);
     }
-    count(codes, places, values, root, a, b - a + 1, figures);
-    Counting::Counted
+    count(rule.nodes, rule.root, a, b - a + 1, figures);
+    Ok(())
 }

@@ -7,8 +7,9 @@ use Rattle.text.specs.Bytes.{bytes}
 use Rattle.rules.specs.Tree.{Tree, var, int, nay, bin, cond, cmp, and, or, rem, eq, ne, ge, le, gt, lt}
 use Rattle.rules.specs.Operator.{op_of, op_at}
 use Rattle.rules.specs.Pool.{Pool, pool, tree_at, tree_of, operands_to, operands, all_below, used, member, distinct, shaped, is_tree, n_op, rest_op, nay_node, pick_node, value_op, pair_op, choice_node, ternary_node}
-use Rattle.rules_text.specs.declared.Writing.{Writing}
-use Rattle.rules_text.specs.declared.Writing.TheVariants.{Length, TooLong, NoTree}
+use Rattle.std.specs.Prelude.{Result, Ok, Err}
+use Rattle.rules_text.specs.declared.Unwritten.{Unwritten}
+use Rattle.rules_text.specs.declared.Unwritten.TheVariants.{TooLong, NoTree}
 use Rattle.rules_text.specs.Bracketed.{decimal_in, decimal, bracketed}
 use Rattle.rules_text.specs.Writing.{writing_of, left_by}
 
@@ -58,10 +59,10 @@ unfolding bracketed decimal decimal_in tree_of tree_at op_of op_at
 node_texts_hold = refl
 
 -- a place and the length of a buffer: 11 where no node is, also if the buffer has no byte; 8 where the text does not fit; else its length
-abbrev pub answers : List (ℕ × ℕ × Writing)
-answers = (0, 6, Length 6) ∷ (0, 5, TooLong) ∷ (0, 600, Length 6) ∷ (6, 1, Length 1) ∷ (6, 0, TooLong) ∷ (10, 512, Length 49) ∷ (11, 512, NoTree) ∷ (11, 0, NoTree) ∷ []
+abbrev pub answers : List (ℕ × ℕ × Result ℕ Unwritten)
+answers = (0, 6, Ok 6) ∷ (0, 5, Err TooLong) ∷ (0, 600, Ok 6) ∷ (6, 1, Ok 1) ∷ (6, 0, Err TooLong) ∷ (10, 512, Ok 49) ∷ (11, 512, Err NoTree) ∷ (11, 0, Err NoTree) ∷ []
 
-pub answers_hold : map (λ (c : ℕ × ℕ × Writing). writing_of P 11 c.0 c.1) answers ≡ map (λ (c : ℕ × ℕ × Writing). c.2) answers
+pub answers_hold : map (λ (c : ℕ × ℕ × Result ℕ Unwritten). writing_of P 11 c.0 c.1) answers ≡ map (λ (c : ℕ × ℕ × Result ℕ Unwritten). c.2) answers
 unfolding writing_of is_tree shaped used distinct member operands operands_to all_below bracketed decimal decimal_in tree_of tree_at op_of op_at
 answers_hold = refl
 

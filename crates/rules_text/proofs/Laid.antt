@@ -1,13 +1,14 @@
--- Texts put one after the other are their join put at once; a byte and a number are put. Assumes nothing.
+-- Texts put one after the other are their join put at once; a number is put. Assumes nothing.
 use Prim.Native.Nat.{ℕ, suc, ◌+◌, ◌/◌, ◌%◌, ◌^◌, ◌<◌, ◌≤◌}
 use mathlib.Core.Path.{◌≡◌, refl, sym, ap, ◌∙◌}
 use mathlib.Core.Bool.{true, false}
 use mathlib.Core.List.{List, [], ◌∷◌, ◌++◌}
 use native.Mathlib.Omega.{arith}
-use lib.ListN.{length, set, get_or, length-append, length-set}
-use lib.Seq.{sets, paste, paste-suc}
+use lib.ListN.{length, take, set, get_or, length-append}
+use lib.Seq.{sets}
 use lib.Dec.{leb}
 use borrow.Author.Tests.{le-leb, lt-leb, leb-true, leb-false}
+use Rattle.std.proofs.lemmas.List.{take_more, take_all}
 use Rattle.text.proofs.Tests.{taken, left, by_test}
 use Rattle.rules.specs.Tree.{int}
 use Rattle.rules_text.specs.Bracketed.{bracketed}
@@ -26,14 +27,6 @@ ended_in at s h = taken _ _ (le-leb (at + length s) 512 h)
 
 ended_out : (at : ℕ) (s : List ℕ) → 512 < at + length s → ended at s ≡ 513
 ended_out at s h = left _ _ (lt-leb (at + length s) 512 h)
-
--- a byte
-module _ (b at : ℕ) (x : List ℕ) where
-  pub byte_out : 512 ≤ at → Puts (b ∷ []) at x x 513
-  byte_out h = record { end = sym (ended_out at (b ∷ []) (omega arith)); text = λ l. absurd (omega arith) }
-
-  pub byte_in : at < 512 → Puts (b ∷ []) at x (set x at b) (at + 1)
-  byte_in h = record { end = sym (ended_in at (b ∷ []) (omega arith)); text = λ l. refl }
 
 -- one text after the other
 pub joined : {s t : List ℕ} {at q r : ℕ} {x y z : List ℕ} → Puts s at x y q → Puts t q y z r → Puts (s ++ t) at x z r
@@ -57,6 +50,33 @@ joined {s} {t} {at} {q} {r} {x} {y} {z} v w = record {
 pub reworded : {s t : List ℕ} {at r : ℕ} {x y : List ℕ} → t ≡ s → Puts s at x y r → Puts t at x y r
 reworded e w = rw e w
 
+-- a text ends at 513 at the latest
+pub room : {s : List ℕ} {at r : ℕ} {x y : List ℕ} → Puts s at x y r → r ≤ 513
+room {s} {at} {r} w =
+    by_test (r ≤ 513) (leb (at + length s) 512)
+    (λ e. let d = w.end ∙ taken _ _ e in let l = leb-true (at + length s) 512 e in omega arith)
+    (λ e. let d = w.end ∙ left _ _ e in omega arith)
+
+pub nothing : (at : ℕ) (x : List ℕ) → at ≤ 513 → Puts [] at x x at
+nothing at x h =
+    record {
+      end = by_test (at ≡ ended at []) (leb (at + 0) 512)
+          (λ e. sym (taken _ _ e ∙ omega arith))
+          (λ e. let l = leb-false (at + 0) 512 e in sym (left _ _ e ∙ omega arith));
+      text = λ h. refl;
+    }
+
+-- the bytes of a text one after the other
+module _ (s : List ℕ) (at : ℕ) {x : List ℕ} where
+  pub none_put : at ≤ 513 → Puts (take 0 s) at x x at
+  none_put h = nothing at x h
+
+  pub one_put : (i : ℕ) {q r : ℕ} {y z : List ℕ} → i < length s → Puts (take i s) at x y q → Puts (get_or s i 0 ∷ []) q y z r → Puts (take (i + 1) s) at x z r
+  one_put i h w v = reworded (take_more s i 0 h) (joined w v)
+
+  pub all_put : (i : ℕ) {r : ℕ} {z : List ℕ} → length s ≤ i → Puts (take i s) at x z r → Puts s at x z r
+  all_put i h w = reworded (sym (take_all i s h)) w
+
 -- a number, its last digit last
 module _ (v at : ℕ) (l : v < 2 ^ 64) {b r : ℕ} {x z : List ℕ} where
   pub number_short : v < 10 → b ≡ 48 + v → Puts (b ∷ []) at x z r → PutsTree (int v) at x z r
@@ -66,20 +86,3 @@ module _ (v at : ℕ) (l : v < 2 ^ 64) {b r : ℕ} {x z : List ℕ} where
   pub number_long : {q : ℕ} {y : List ℕ} → 10 ≤ v → PutsTree (int (v / 10)) at x y q → b ≡ 48 + v % 10 → Puts (b ∷ []) q y z r → PutsTree (int v) at x z r
   unfolding bracketed
   number_long h d e w = record { text = reworded (decimal_long v h) (joined d.text (rw e at w)); bounded = l }
-
--- a turn of the loop that copies to the front of a buffer, and its end
-module _ (old s : List ℕ) {x : List ℕ} (i : ℕ) (e : x ≡ paste old 0 s i) where
-  pub copied :
-      length x ≡ length old → i < length old → i < length s →
-      (length (set x i (get_or s i 0)) ≡ length old) × (set x i (get_or s i 0) ≡ paste old 0 s (i + 1))
-  copied k h l =
-      let z : i ≡ 0 + i = omega arith in
-      let n : suc i ≡ i + 1 = omega arith in (
-        length-set x i (get_or s i 0) ∙ k,
-        ap (λ (y : List ℕ). set y i (get_or s i 0)) e
-            ∙ (ap (λ (j : ℕ). set (paste old 0 s i) j (get_or s i 0)) z
-            ∙ (paste-suc old 0 s i 0 (omega arith) l ∙ ap (λ (j : ℕ). paste old 0 s j) n)),
-      )
-
-  pub copied_all : {n : ℕ} → i ≤ n → n ≤ i → x ≡ paste old 0 s n
-  copied_all {n} h l = let d : i ≡ n = omega arith in e ∙ ap (λ (j : ℕ). paste old 0 s j) d

@@ -1,6 +1,5 @@
 pub mod Decimal
 pub mod Laid
-pub mod Signs
 pub mod Nodes
 pub mod Texts
 mod Heads

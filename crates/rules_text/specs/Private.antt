@@ -8,6 +8,7 @@ use Rattle.rules.specs.Operator.{op_of}
 use Rattle.rules.specs.Pool.{Pool, code, field, value, tree_of, nay_node, value_op, pair_op, choice_node, ternary_node}
 use Rattle.rules_text.specs.Bracketed.{decimal, sign_of, bracketed}
 use Rattle.rules_text.specs.Bounded.{Bounded}
+use Rattle.rules_text.specs.declared.Text.{Text}
 
 -- the place after a text; 513 if it does not fit
 abbrev pub ended : ℕ → List ℕ → ℕ
@@ -23,19 +24,16 @@ pub record PutsWith (B : Type 0) (s : List ℕ) (at : ℕ) (old new : List ℕ) 
   pub text : Puts s at old new r
   pub bounded : B
 
+-- of a text before and after
+abbrev pub On : (ℕ → List ℕ → List ℕ → ℕ → Type 0) → Text → Text → Type 0
+On R old new = R old.end old.bytes new.bytes new.end
+
 abbrev pub PutsTree : Tree → ℕ → List ℕ → List ℕ → ℕ → Type 0
 PutsTree t = PutsWith (Bounded t) (bracketed t)
 
 abbrev pub sign_by : Option Op → List ℕ
 sign_by (some op) = sign_of op
 sign_by none = []
-
--- the bytes of the operators by their numbers; 0 if there is no second one
-abbrev pub firsts : List ℕ
-firsts = 61 ∷ 33 ∷ 62 ∷ 60 ∷ 62 ∷ 60 ∷ 38 ∷ 124 ∷ 37 ∷ 47 ∷ 43 ∷ 45 ∷ 42 ∷ []
-
-abbrev pub seconds : List ℕ
-seconds = 61 ∷ 61 ∷ 61 ∷ 61 ∷ 0 ∷ 0 ∷ 38 ∷ 124 ∷ 0 ∷ 0 ∷ 0 ∷ 0 ∷ 0 ∷ []
 
 -- an operator and an integer as its last operand
 abbrev pub valued : ℕ → ℕ → List ℕ

@@ -1,5 +1,4 @@
--- The tree test place by place: what a mark says of an operand, what a failed operand or node says of the whole, and that the values
--- are not looked at.
+-- The tree test place by place: what a mark says of an operand, and what a failed operand or node says of the whole.
 use mathlib.Core.Path.{◌≡◌, refl, sym, ap, ◌∙◌}
 use mathlib.Core.Bool.{Bool, true, false, not, ◌&&◌, and-false, and_assoc}
 use mathlib.Core.List.{List, [], ◌∷◌, ◌++◌}
@@ -11,10 +10,10 @@ use native.Mathlib.Numerals.{add-one}
 use native.Mathlib.Decide.{ℕ_discrete}
 use lib.ListN.{length, get_or, set, replicate, length-set, length-replicate, get_or-replicate}
 use lib.Seq.{get_or-set_same, get_or-set_other}
-use lib.Dec.{leb, ltb, eqb}
-use borrow.Author.Tests.{lt-ltb, le-ltb, le-leb, lt-leb, leb-true, leb-false, ltb-true, eq-eqb, ne_eqb, not-false}
+use lib.Dec.{ltb, eqb}
+use borrow.Author.Tests.{lt-ltb, le-ltb, le-leb, lt-leb, ltb-true, eq-eqb, ne_eqb, not-false}
 use Rattle.rules.specs.Pool.{Pool, code, field, known, fields, operands_to, operands, all_below, member, distinct, used, shaped, is_tree, nay_node, pair_op, ternary_node}
-use Rattle.rules_tree.specs.Private.{Unmarked, Marked, Took, Placed, Passes}
+use Rattle.rules_tree.specs.Private.{Unmarked, Marked, Took, Placed}
 use Rattle.rules.proofs.Operators.{never, split}
 use Rattle.rules.proofs.Trees.{both_left, both_right, member_head, member_tail, both_fields, has_operands}
 
@@ -216,18 +215,12 @@ module _ (P : Pool) where
       (eq-or-lt_of_le h)
 
   -- the answers of the test of all nodes
-  pub stopped : {m n : List ℕ} {r : Bool} (k p : ℕ) → p < k → Placed P p m n r → r ≡ false → Passes P k p
+  pub stopped : {m n : List ℕ} {r : Bool} (k p : ℕ) → p < k → Placed P p m n r → r ≡ false → false ≡ (shaped P k && distinct (used P k))
   unfolding shaped used
-  stopped k p h t e = record {
-    all = λ d. absurd (omega arith);
-    fails = λ d. whole_fails (suc p) k h (rw (and_assoc, and_assoc, sym t.answer ∙ e) (and-false (shaped P p)));
-  }
+  stopped k p h t e = sym (whole_fails (suc p) k h (rw (and_assoc, and_assoc, sym t.answer ∙ e) (and-false (shaped P p))))
 
-  pub passed : {m : List ℕ} (k p : ℕ) → k ≤ p → Passed P p m → Passes P k p
-  passed k p h t = record {
-    all = λ d. split _ (λ f. f) (λ f. f ∙ sym (whole_fails k p h f) ∙ rw (t.whole, t.marked.apart));
-    fails = λ d. absurd (omega arith);
-  }
+  pub passed : {m : List ℕ} (k : ℕ) → Passed P k m → true ≡ (shaped P k && distinct (used P k))
+  passed k t = rw (t.whole, t.marked.apart)
 
 -- the answers of the tree test
 module _ (P : Pool) (count root : ℕ) where
@@ -239,8 +232,6 @@ module _ (P : Pool) (count root : ℕ) where
   unfolding is_tree
   no_root h l = rw (le-leb count 512 h, le-ltb root count l)
 
-  pub tested : {r : ℕ} → count ≤ 512 → root < count → Passes P count r → leb count r ≡ is_tree P count root
+  pub tested : {r : Bool} → count ≤ 512 → root < count → r ≡ (shaped P count && distinct (used P count)) → r ≡ is_tree P count root
   unfolding is_tree
-  tested {r} h l t =
-      rw (le-leb count 512 h, lt-ltb root count l)
-      (split (leb count r) (λ e. e ∙ sym (t.all (leb-true count r e))) (λ e. e ∙ sym (t.fails (leb-false count r e))))
+  tested h l t = rw (le-leb count 512 h, lt-ltb root count l) t

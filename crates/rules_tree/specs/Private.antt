@@ -1,6 +1,6 @@
 -- What the functions of the tree test promise one another: SPEC 8, place by place.
-use Rattle.std.specs.Prelude.{ℕ, ◌<◌, ◌≤◌, ◌≡◌, Bool, true, false, not, ◌&&◌, List, ◌++◌, length, get_or, set, ltb, eqb}
-use Rattle.rules.specs.Pool.{Pool, code, known, operands, all_below, member, distinct, used, shaped}
+use Rattle.std.specs.Prelude.{ℕ, ◌<◌, ◌≡◌, Bool, true, not, ◌&&◌, List, ◌++◌, length, get_or, set, ltb, eqb}
+use Rattle.rules.specs.Pool.{Pool, code, known, operands, all_below, member, distinct, used}
 
 -- no place is marked
 pub record Unmarked (m : List ℕ) : Type 0 where
@@ -21,8 +21,3 @@ pub record Placed (P : Pool) (p : ℕ) (m n : List ℕ) (r : Bool) : Type 0 wher
   pub answer : r ≡ (known (code P p) && (all_below p (operands P p) && distinct (operands P p ++ used P p)))
   pub marks : r ≡ true → Marked n (operands P p ++ used P p)
   pub long : r ≡ true → length n ≡ length m
-
--- the nodes at the places below k were tested, and r is one of them that fails, or none fails
-pub record Passes (P : Pool) (k r : ℕ) : Type 0 where
-  pub all : k ≤ r → (shaped P k && distinct (used P k)) ≡ true
-  pub fails : r < k → (shaped P k && distinct (used P k)) ≡ false

@@ -2,12 +2,12 @@
 // plural lookup and every rating begins with it. And where a walk over them can go in a loop.
 #![tactic(auto)]
 
-ghost use Rattle.std.specs.Prelude.{◌≡◌, true, [], ◌+◌, ◌<◌, ◌≤◌, ◌*◌, length, get_or};
-ghost use Rattle.rules.specs.Pool.{pool, nay_node, used, shaped, is_tree};
+ghost use Rattle.std.specs.Prelude.{◌≡◌, true, ◌&&◌, ◌+◌, ◌<◌, ◌≤◌, ◌*◌, length, get_or};
+ghost use Rattle.rules.specs.Pool.{pool_in, nay_node, distinct, used, shaped, is_tree};
 ghost use Rattle.rules_tree.specs.Promise.{above, Stands};
-ghost use Rattle.rules_tree.specs.Private.{Unmarked, Marked, Took, Placed, Passes};
+ghost use Rattle.rules_tree.specs.Private.{Unmarked, Marked, Took, Placed};
 
-use rules::{node, place};
+use rules::{Nodes, Rule, node};
 
 // Above all codes.
 pub const CODES: u8 = node::TERNARY + 1;
@@ -16,11 +16,11 @@ pub const CODES: u8 = node::TERNARY + 1;
 const FEW: usize = 64;
 
 // Whether the operand that field j of the node at p names lies below it and is no operand yet; it is marked as one then.
-fn takes<'a>(places: &'a [u16; 1024], marks: &mut [u8], p: usize, j: usize) -> bool
+fn takes(nodes: Nodes<'_>, marks: &mut [u8], p: usize, j: usize) -> bool
     requires { (p < 512) × (j < 2) × (p < length marks.old) }
-    ensures { Took (get_or places.now (2 * p + j) 0) p marks.old marks.new result }
+    ensures { Took (get_or nodes.entry.places.now (2 * p + j) 0) p marks.old marks.new result }
 {
-    let q = place(places, p, j);
+    let q = nodes.place(p, j);
     if p <= q {
         return false;
     }
@@ -32,12 +32,12 @@ fn takes<'a>(places: &'a [u16; 1024], marks: &mut [u8], p: usize, j: usize) -> b
 }
 
 // Whether the node at p has a known code and takes all its operands. No node before it can have taken the place before it.
-fn is_node<'a>(codes: &'a [u8; 512], places: &'a [u16; 1024], marks: &mut [u8], p: usize) -> bool
+fn is_node(nodes: Nodes<'_>, marks: &mut [u8], p: usize) -> bool
     requires room { (p < 512) × (p < length marks.old) }
-    requires before { (shaped (pool codes.now places.now []) p ≡ true) × Marked marks.old (used (pool codes.now places.now []) p) }
-    ensures { Placed (pool codes.now places.now []) p marks.old marks.new result }
+    requires before { (shaped (pool_in nodes) p ≡ true) × Marked marks.old (used (pool_in nodes) p) }
+    ensures { Placed (pool_in nodes.entry) p marks.old marks.new result }
 {
-    let code = codes[p];
+    let code = nodes.codes[p];
     if code < node::NOT {
         return true;
     }
@@ -48,7 +48,7 @@ fn is_node<'a>(codes: &'a [u8; 512], places: &'a [u16; 1024], marks: &mut [u8], 
     if code < node::OP {
         return true;
     }
-    if !takes(places, marks, p, 0) {
+    if !takes(nodes, marks, p, 0) {
         return false;
     }
     if code < node::TERNARY {
@@ -57,65 +57,55 @@ fn is_node<'a>(codes: &'a [u8; 512], places: &'a [u16; 1024], marks: &mut [u8], 
     if code != node::TERNARY {
         return false;
     }
-    takes(places, marks, p, 1)
+    takes(nodes, marks, p, 1)
 }
 
-// The first place whose node fails, or the count. It is a place and no answer so that the loop carries one number only.
-fn passes<'a>(
-    codes: &'a [u8; 512],
-    places: &'a [u16; 1024],
-    marks: &mut [u8],
-    count: usize,
-) -> usize
+// Whether every node passes, and none is an operand twice.
+fn passes(nodes: Nodes<'_>, marks: &mut [u8], count: usize) -> bool
     requires { (count ≤ 512) × (count ≤ length marks.old) × Unmarked marks.old }
-    ensures { Passes (pool codes.now places.now []) count result }
+    ensures { result ≡ (shaped (pool_in nodes.entry) count && distinct (used (pool_in nodes.entry) count)) }
 {
-    let mut p = 0;
-    while p < count {
-        if is_node(codes, places, marks, p) {
-            p += 1;
-        } else {
-            return p;
+    for p in 0..count {
+        if !is_node(nodes, marks, p) {
+            return false;
         }
     }
-    p
+    true
 }
 
 // Whether the nodes are a tree. The values are not looked at.
-pub fn is_tree<'a>(codes: &'a [u8; 512], places: &'a [u16; 1024], count: usize, root: usize) -> bool
-    ensures { result ≡ is_tree (pool codes.now places.now []) count root }
+pub fn is_tree(rule: Rule<'_>) -> bool
+    ensures { result ≡ is_tree (pool_in rule.entry.nodes) rule.entry.count rule.entry.root }
 {
-    if rules::MOST < count {
+    if rules::MOST < rule.count {
         return false;
     }
-    if count <= root {
+    if rule.count <= rule.root {
         return false;
     }
-    if count <= FEW {
+    if rule.count <= FEW {
         let mut marks = [0u8; 64];
-        return count <= passes(codes, places, &mut marks, count);
+        return passes(rule.nodes, &mut marks, rule.count);
     }
     let mut marks = [0u8; 512];
-    count <= passes(codes, places, &mut marks, count)
+    passes(rule.nodes, &mut marks, rule.count)
 }
 
 // Whether a node has an operand, and its code is below an end.
 fn is_above(code: u8, end: u8) -> bool
     ensures { result ≡ above code end }
 {
-    if code < node::NOT {
-        return false;
-    }
-    code < end
+    node::NOT <= code && code < end
 }
 
 // The place of the node that a run of nodes stands on, which ends at a place: each has an operand, of which the last is always the node before, and a
 // code below an end. So a walk goes up such a run in a loop and takes no stack for it: with the end `node::OP`, of nodes with one operand
 // only; with `CODES`, of all, and the run stands on a leaf.
-pub fn base<'a>(codes: &'a [u8; 512], at: usize, end: u8) -> usize
+pub fn base(codes: &[u8; 512], at: usize, end: u8) -> usize
     requires { (at < 512) × (get_or codes.now 0 0 < nay_node) }
     ensures { Stands codes.now at end result }
 {
+    // no count: the place where the run begins is looked for, downwards
     let mut p = at;
     while is_above(codes[p], end) {
         p -= 1;

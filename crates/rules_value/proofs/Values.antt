@@ -10,8 +10,7 @@ use native.Mathlib.Decide.{dec_lt}
 use lib.ListN.{get_or}
 use lib.Dec.{eqb}
 use borrow.Author.Tests.{le-leb, lt-ltb, le-ltb, ne_eqb}
-use Rattle.rules.specs.declared.Value.{Value}
-use Rattle.rules.specs.declared.Value.TheVariants.{Is}
+use Rattle.std.specs.Prelude.{Option, Some}
 use Rattle.rules.specs.Tree.{Tree, rem}
 use Rattle.rules.specs.Value.{truth, binary, eval_tree}
 use Rattle.rules.specs.Operator.{op_of, op_at, Named}
@@ -27,36 +26,39 @@ use Rattle.rules_value.specs.Private.{Lifts}
 settles : (i x : ℕ) {s b : Bool} (k : Named i) → s ≡ settled_by (op_of i) x → s ≡ b → settled k.op x ≡ b
 settles i x k e d = ap (λ o. settled_by o x) (sym k.is) ∙ sym e ∙ d
 
+-- those of a node with no operand, by its code, its first field and its value
+module _ (k m v n : ℕ) {b : Bool} {r : ℕ} where
+  pub is_count : k ≡ 0 → r ≡ n → Gives (eval_tree (leaf k m v) n) b b r
+  unfolding eval_tree
+  is_count h e = number (rw h) e
+
+  pub is_int : (k ≡ 0 → ⊥) → k < n_op → r ≡ v → Gives (eval_tree (leaf k m v) n) b b r
+  unfolding eval_tree
+  is_int d h e = number (rw (leaf, lt-ltb k n_op h, ne_eqb k 0 d)) e
+
+  pub is_op : {c : Bool} → n_op ≤ k → k < rest_op → Applies (k - n_op) n v b c r → Gives (eval_tree (leaf k m v) n) b c r
+  unfolding eval_tree
+  is_op d h g = let o = named (k - n_op) (omega arith) in rw (leaf_op k m v o.is d h) (g.gives o.op o.is)
+
+  pub is_rest : {c d : Bool} {x : ℕ} → rest_op ≤ k → k < nay_node → Applies 8 n m b c x → Applies (k - rest_op) x v c d r → Gives (eval_tree (leaf k m v) n) b d r
+  unfolding eval_tree op_of op_at
+  is_rest h l g w =
+      let o = named (k - rest_op) (omega arith) in
+      rw (leaf_rest k m v o.is h) (by_left o.op (binary rem (Some n) (Some m)) v (g.gives rem refl) (w.gives o.op o.is))
+
 module _ (P : Pool) (p n : ℕ) where
-  abbrev ev : ℕ → Value
+  abbrev ev : ℕ → Option ℕ
   ev q = eval_tree (tree_of P q) n
 
-  abbrev val : Tree → Value
+  abbrev val : Tree → Option ℕ
   val t = eval_tree t n
 
   -- what was given at a place that is this one
   pub moved : {l : ℕ} {b c : Bool} {x : ℕ} → Gives (ev l) b c x → l ≡ p → Gives (ev p) b c x
   moved g e = rw (← e) g
 
-  pub at_count : {b : Bool} {r : ℕ} → code P p ≡ 0 → r ≡ n → Gives (ev p) b b r
-  unfolding eval_tree
-  at_count h e = number (ap val (tree_leaf P p (omega arith)) ∙ rw h) e
-
-  pub at_int : {b : Bool} {r : ℕ} → (code P p ≡ 0 → ⊥) → code P p < n_op → r ≡ value P p → Gives (ev p) b b r
-  unfolding eval_tree
-  at_int d h e = number (ap val (tree_leaf P p (omega arith)) ∙ rw (leaf, lt-ltb (code P p) n_op h, ne_eqb (code P p) 0 d)) e
-
-  pub at_op : {b c : Bool} {r : ℕ} → n_op ≤ code P p → code P p < rest_op → Applies (code P p - n_op) n (value P p) b c r → Gives (ev p) b c r
-  unfolding eval_tree
-  at_op d h g = let k = named (code P p - n_op) (omega arith) in rw (tree_leaf P p (omega arith), leaf_op (code P p) (field P p 0) (value P p) k.is d h) (g.gives k.op k.is)
-
-  pub at_rest : {b c d : Bool} {m x r : ℕ} → rest_op ≤ code P p → code P p < nay_node → m ≡ field P p 0 → Applies 8 n m b c x
-      → Applies (code P p - rest_op) x (value P p) c d r → Gives (ev p) b d r
-  unfolding eval_tree op_of op_at
-  at_rest h l e g w =
-      let k = named (code P p - rest_op) (omega arith) in
-      rw (tree_leaf P p l, leaf_rest (code P p) (field P p 0) (value P p) k.is h)
-      (by_left k.op (binary rem (Is n) (Is (field P p 0))) (value P p) (rw e at (g.gives rem refl)) (w.gives k.op k.is))
+  pub at_leaf : {b c : Bool} {m r : ℕ} → code P p < nay_node → m ≡ field P p 0 → Gives (val (leaf (code P p) m (value P p))) b c r → Gives (ev p) b c r
+  at_leaf h e g = rw (tree_leaf P p h) (rw e at g)
 
   module _ {b c : Bool} {x : ℕ} (a : p - 1 < p) (g : Gives (ev (p - 1)) b c x) where
     pub at_nay : {r : ℕ} → code P p ≡ nay_node → r ≡ truth (eqb x 0) → Gives (ev p) b c r

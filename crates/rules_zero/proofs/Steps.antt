@@ -7,10 +7,9 @@ use Prim.Native.Nat.{ℕ, zero, suc, ◌-◌, ◌<◌, ◌≤◌}
 use native.Mathlib.Omega.{arith}
 use lib.Dec.{ltb, eqb}
 use borrow.Author.Tests.{lt-ltb, le-ltb, ltb-true, ltb-false, eq-eqb, ne_eqb, eqb-true, eqb-false}
-use Rattle.rules.specs.declared.Value.{Value}
-use Rattle.rules.specs.declared.Value.TheVariants.{Is, ZeroModulus}
-use Rattle.rules.specs.declared.Resolved.{Resolved}
-use Rattle.rules.specs.declared.Resolved.TheVariants as resolved
+use Rattle.std.specs.Prelude.{Option, Some, None, Result, Err}
+use Rattle.rules.specs.declared.NoForm.{NoForm}
+use Rattle.rules.specs.declared.NoForm.TheVariants as no_form
 use Rattle.rules.specs.Operator.{op_of}
 use Rattle.rules.specs.Pool.{Pool, code, field, is_tree, nay_node, pair_op, choice_node, ternary_node}
 use Rattle.rules.specs.Promise.{Sound}
@@ -39,14 +38,14 @@ module _ (P : Pool) (n p : ℕ) where
   step_two h = rw (step_of, reached, le-ltb (code P p) nay_node (omega arith), le-ltb (code P p) pair_op h)
 
   -- the first operand is q, and u its value
-  module _ {q : ℕ} {u : Value} (h : pair_op ≤ code P p) (e : q ≡ field P p 0) (g : u ≡ value_at P n q) where
-    at_first : {v : Value} → u ≡ v → step_of P n p ≡ without v (field P p 0) (first_of P n p (second P p v))
-    at_first f = step_two h ∙ ap (λ (v : Value). without v (field P p 0) (first_of P n p (second P p v))) (sym (g ∙ ap (value_at P n) e) ∙ f)
+  module _ {q : ℕ} {u : Option ℕ} (h : pair_op ≤ code P p) (e : q ≡ field P p 0) (g : u ≡ value_at P n q) where
+    at_first : {v : Option ℕ} → u ≡ v → step_of P n p ≡ without v (field P p 0) (first_of P n p (second P p v))
+    at_first f = step_two h ∙ ap (λ (v : Option ℕ). without v (field P p 0) (first_of P n p (second P p v))) (sym (g ∙ ap (value_at P n) e) ∙ f)
 
-    pub step_first : u ≡ ZeroModulus → q ≡ step_of P n p
+    pub step_first : u ≡ None → q ≡ step_of P n p
     step_first f = e ∙ sym (at_first f)
 
-    module _ {x : ℕ} (f : u ≡ Is x) where
+    module _ {x : ℕ} (f : u ≡ Some x) where
       pub step_settled : {s : Bool} → code P p < choice_node → s ≡ settled_by (op_of (code P p - pair_op)) x → s ≡ true → p ≡ step_of P n p
       step_settled l a b = sym (at_first f ∙ rw (second, lt-ltb (code P p) choice_node l, sym a ∙ b))
 
@@ -67,19 +66,15 @@ module _ (P : Pool) (n p : ℕ) where
 pub inside : {P : Pool} {p : ℕ} → Sound P p → p < 512
 inside s = omega (arith, s.inside, s.few)
 
--- the operand's value is u, as the code has it
-pub without_by : (q p : ℕ) {u v w : Value} → u ≡ v → u ≡ w → without w q p ≡ without v q p
-without_by q p e d = ap (λ (v : Value). without v q p) (sym d ∙ e)
-
 -- a step goes to a place that is not above
-without_low : (v : Value) {q r p : ℕ} → q ≤ p → r ≤ p → without v q r ≤ p
-without_low (Is x) h k = k
-without_low ZeroModulus h k = h
+without_low : (v : Option ℕ) {q r p : ℕ} → q ≤ p → r ≤ p → without v q r ≤ p
+without_low (Some x) h k = k
+without_low None h k = h
 
 module _ {P : Pool} {p : ℕ} (n : ℕ) (s : Sound P p) where
-  second_low : (v : Value) → pair_op ≤ code P p → first_of P n p (second P p v) ≤ p
-  second_low ZeroModulus h = omega arith
-  second_low (Is x) h = go (ltb (code P p) choice_node) refl
+  second_low : (v : Option ℕ) → pair_op ≤ code P p → first_of P n p (second P p v) ≤ p
+  second_low None h = omega arith
+  second_low (Some x) h = go (ltb (code P p) choice_node) refl
     where
       settled : (b : Bool) → first_of P n p (elim b [ true ↦ [] | false ↦ (p - 1) ∷ [] ]) ≤ p
       settled true = omega arith
@@ -93,7 +88,7 @@ module _ {P : Pool} {p : ℕ} (n : ℕ) (s : Sound P p) where
       chosen true = without_low (value_at P n (p - 1)) (omega arith) (omega arith)
       chosen false = arm (ltb (code P p) ternary_node) refl
 
-      go : (b : Bool) → ltb (code P p) choice_node ≡ b → first_of P n p (second P p (Is x)) ≤ p
+      go : (b : Bool) → ltb (code P p) choice_node ≡ b → first_of P n p (second P p (Some x)) ≤ p
       go true e = rw (second, e) (settled (settled_by (op_of (code P p - pair_op)) x))
       go false e = rw (second, e) (chosen (eqb x 0))
 
@@ -150,14 +145,14 @@ module _ (P : Pool) (n p : ℕ) where
 
 -- the value of a rule with the node, as the code has them
 module _ (P : Pool) (count root n : ℕ) where
-  pub traces : {v u : Resolved} → v ≡ resolved_of P count root n → v ≡ u → traced u (zero_at P n root) ≡ traced_of P count root n
+  pub traces : {v u : Result ℕ NoForm} → v ≡ resolved_of P count root n → v ≡ u → traced u (zero_at P n root) ≡ traced_of P count root n
   unfolding traced_of
-  traces e d = ap (λ (u : Resolved). traced u (zero_at P n root)) (sym d ∙ e)
+  traces e d = ap (λ (u : Result ℕ NoForm). traced u (zero_at P n root)) (sym d ∙ e)
 
   -- where a zero divisor is met, the nodes are a tree
-  pub zero_sound : {v : Resolved} → v ≡ resolved_of P count root n → v ≡ resolved.ZeroModulus → Sound P root
+  pub zero_sound : {v : Result ℕ NoForm} → v ≡ resolved_of P count root n → v ≡ Err no_form.ZeroModulus → Sound P root
   zero_sound e d = go (is_tree P count root) refl
     where
       go : (b : Bool) → is_tree P count root ≡ b → Sound P root
       go true t = sound P count root t
-      go false t = let w : resolved.ZeroModulus ≡ resolved.NoTree = sym d ∙ e ∙ resolved_none P count root n t in let z : ◌≡◌ {A = ℕ} 0 1 = cc in absurd (omega arith)
+      go false t = let w : Err no_form.ZeroModulus ≡ Err no_form.NoTree = sym d ∙ e ∙ resolved_none P count root n t in let z : ◌≡◌ {A = ℕ} 0 1 = cc in absurd (omega arith)

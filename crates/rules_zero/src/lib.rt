@@ -2,94 +2,76 @@
 #![tactic(auto)]
 
 ghost use Rattle.std.specs.Prelude.{◌≡◌};
-ghost use Rattle.rules.specs.Pool.{pool};
+ghost use Rattle.rules.specs.Pool.{pool_in};
 ghost use Rattle.rules.specs.Promise.{Sound};
 ghost use Rattle.rules_zero.specs.Zero.{value_at, without, step_of, zero_at, traced_of};
 
-use rules::{Resolved, Value, node, place};
+use rules::{NoForm, Nodes, Rule, node};
 use rules_operators::settles;
 use rules_value::value_at;
 
-// The value of a rule at a count, or the node that meets a zero divisor there.
+// Why a rule has no value at a count: this node meets a zero divisor there, or the nodes are no tree.
 #[derive(Clone, Copy)]
-pub enum Traced {
-    Form(u64),
+pub enum Fault {
     ZeroDivisor(usize),
     NoTree,
 }
 
 // The operand at a place, where its tree has no value, or else its parent.
-fn without<'a>(
-    codes: &'a [u8; 512],
-    places: &'a [u16; 1024],
-    values: &'a [u64; 512],
-    operand: usize,
-    parent: usize,
-    n: u64,
-) -> usize
-    requires { Sound (pool codes.now places.now values.now) operand }
-    ensures { result ≡ without (value_at (pool codes.now places.now values.now) n operand) operand parent }
+fn without(nodes: Nodes<'_>, operand: usize, parent: usize, n: u64) -> usize
+    requires { Sound (pool_in nodes) operand }
+    ensures { result ≡ without (value_at (pool_in nodes.entry) n operand) operand parent }
 {
-    let value = value_at(codes, places, values, operand, n);
-    match value {
-        Value::Is(x) => parent,
-        Value::ZeroModulus => operand,
+    if value_at(nodes, operand, n).is_some() {
+        parent
+    } else {
+        operand
     }
 }
 
 // From a node whose tree has no value to the operand that has none: the first one, or the second one if evaluation gets to it. Where they
 // have values, the node itself divides by zero.
-fn step<'a>(
-    codes: &'a [u8; 512],
-    places: &'a [u16; 1024],
-    values: &'a [u64; 512],
-    at: usize,
-    n: u64,
-) -> usize
-    requires { Sound (pool codes.now places.now values.now) at }
-    ensures { result ≡ step_of (pool codes.now places.now values.now) n at }
+#[tactic(auto, using(crate::proofs::Steps::inside, crate::proofs::Steps::step_leaf, crate::proofs::Steps::step_one, crate::proofs::Steps::step_first, crate::proofs::Steps::step_no, crate::proofs::Steps::step_chosen, crate::proofs::Steps::step_yes, rules::proofs::Trees::before_in, rules::proofs::Trees::down))]
+fn step(nodes: Nodes<'_>, at: usize, n: u64) -> usize
+    requires { Sound (pool_in nodes) at }
+    ensures { result ≡ step_of (pool_in nodes.entry) n at }
 {
-    let code = codes[at];
+    let code = nodes.codes[at];
     if code < node::NOT {
         return at;
     }
+    let last = at - 1;
     if code < node::OP {
-        return without(codes, places, values, at - 1, at, n);
+        return without(nodes, last, at, n);
     }
-    let first = place(places, at, 0);
-    let value = value_at(codes, places, values, first, n);
-    let Value::Is(x) = value else {
+    let first = nodes.place(at, 0);
+    let Some(x) = value_at(nodes, first, n) else {
         return first;
     };
     if code < node::CHOICE {
         if settles(code - node::OP, x) {
             return at;
         }
-        return without(codes, places, values, at - 1, at, n);
+        return without(nodes, last, at, n);
     }
     if x == 0 {
-        return without(codes, places, values, at - 1, at, n);
+        return without(nodes, last, at, n);
     }
     if code < node::TERNARY {
         return at;
     }
-    without(codes, places, values, place(places, at, 1), at, n)
+    without(nodes, nodes.place(at, 1), at, n)
 }
 
 // The node at which evaluation of the tree at a place meets a zero divisor.
-fn zero_at<'a>(
-    codes: &'a [u8; 512],
-    places: &'a [u16; 1024],
-    values: &'a [u64; 512],
-    root: usize,
-    n: u64,
-) -> usize
-    requires { Sound (pool codes.now places.now values.now) root }
-    ensures { result ≡ zero_at (pool codes.now places.now values.now) n root }
+#[tactic(auto, using(crate::proofs::Steps::step_down, crate::proofs::Steps::zero_here, crate::proofs::Steps::zero_on))]
+fn zero_at(nodes: Nodes<'_>, root: usize, n: u64) -> usize
+    requires { Sound (pool_in nodes) root }
+    ensures { result ≡ zero_at (pool_in nodes.entry) n root }
 {
     let mut at = root;
     loop {
-        let next = step(codes, places, values, at, n);
+        let next = step(nodes, at, n);
         if next == at {
             return at;
         }
@@ -98,20 +80,13 @@ fn zero_at<'a>(
 }
 
 // The value of a rule at a count, or the node that meets a zero divisor there.
-pub fn trace<'a>(
-    codes: &'a [u8; 512],
-    places: &'a [u16; 1024],
-    values: &'a [u64; 512],
-    count: usize,
-    root: usize,
-    n: u64,
-) -> Traced
-    ensures { result ≡ traced_of (pool codes.now places.now values.now) count root n }
+#[tactic(auto, using(crate::proofs::Steps::zero_sound))]
+pub fn trace(rule: Rule<'_>, n: u64) -> Result<u64, Fault>
+    ensures { result ≡ traced_of (pool_in rule.entry.nodes) rule.entry.count rule.entry.root n }
 {
-    let resolved = rules_value::resolve(codes, places, values, count, root, n);
-    match resolved {
-        Resolved::Form(x) => Traced::Form(x),
-        Resolved::ZeroModulus => Traced::ZeroDivisor(zero_at(codes, places, values, root, n)),
-        Resolved::NoTree => Traced::NoTree,
+    match rules_value::resolve(rule, n) {
+        Ok(x) => Ok(x),
+        Err(NoForm::ZeroModulus) => Err(Fault::ZeroDivisor(zero_at(rule.nodes, rule.root, n))),
+        Err(NoForm::NoTree) => Err(Fault::NoTree),
     }
 }

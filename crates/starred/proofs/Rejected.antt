@@ -8,6 +8,7 @@ use mathlib.Core.List.{List, [], ◌∷◌, ◌++◌}
 use lib.ListN.{length, take, set}
 use lib.Dec.{leb}
 use denote.Ref.{Bor}
+use Rattle.std.specs.Prelude.{Option, Some, Result, Ok}
 use Rattle.text.specs.Bytes.{front, all, bytes, same, begins, first}
 use Rattle.text.specs.Cut.{cut, every}
 use Rattle.text_trim.specs.Trim.{trim, trim_start, trim_end, edge_after, lead, encode}
@@ -15,6 +16,7 @@ use Rattle.text_utf8.specs.Utf8.{utf8, rest}
 use Rattle.refusal.specs.declared.Where.TheVariants.{Forced}
 use Rattle.refusal.specs.Numbers.{number_of}
 use Rattle.refusal.specs.declared.Error.TheVariants.{BadRecord}
+use Rattle.refusal.specs.declared.Refusal.{Refusal}
 use Rattle.rules.specs.Tree.{var, int, bin, rem, default_tree}
 use Rattle.rules.specs.Value.{eval_tree, binary}
 use Rattle.rules.specs.Range.{rate_tree, bin_range, op_range}
@@ -23,15 +25,12 @@ use Rattle.rules.specs.Pool.{Pool, tree_at, tree_of, operands_to, operands, all_
 use Rattle.rules.specs.Store.{zeros, blank}
 use Rattle.rules.specs.Pack.{number_of as integerIn, is_count, is_rem, left_of, pack, nodes, keep, packed}
 use Rattle.rules.specs.Answer.{resolved_of, rated_of}
-use Rattle.rules.specs.declared.Rated as rating
-use Rattle.rules.specs.declared.Rated.TheVariants.{Range}
-use Rattle.rules.specs.declared.Resolved as resolving
-use Rattle.rules.specs.declared.Resolved.TheVariants.{Form}
+use Rattle.rules.specs.declared.NoForm.{NoForm}
+use Rattle.rules.specs.declared.NoTree.{NoTree}
 use Rattle.text_digits.specs.Digits.{digits_from, integer}
 use Rattle.reading_scan.specs.Scan.{index_from, index_of, end_from}
 use Rattle.reading_shipped.specs.Shipped.{shipped, parse_in, parens, level, choose, read_not}
 use Rattle.reading_rule.specs.Plurals.{made, tested, parsed, Parses}
-use Rattle.reading_rule.specs.declared.Parsed.{Parsed}
 use Rattle.reading_rule.specs.declared.Reading.TheVariants.{Shipped}
 use Rattle.header_fields.specs.Fields.{named, last_of}
 use Rattle.header.specs.Header.{charset, plural, metadata, utf8_label}
@@ -88,17 +87,17 @@ unfolding lookup.plural last_with last_in entry word string id_start id_end fron
 against_form_0_always r promise = promise
 
 -- a reading that calls every rule n
-pub against_every_rule_n : {Q : Pool} (r : Parsed) → Parses (parsed Forced Shipped (bytes "+7")) Q r → Q ≡ packed (int 7)
+pub against_every_rule_n : {Q : Pool} (r : Result ℕ Refusal) → Parses (parsed Forced Shipped (bytes "+7")) Q r → Q ≡ packed (int 7)
 unfolding parsed tested made all trim trim_start trim_end edge_after lead encode begins shipped parse_in parens level choose read_not index_of index_from end_from integer digits_from
 against_every_rule_n r promise = promise.stored
 
 -- a rating that never rates: n%10
-pub against_never_rates : (r : rating.Rated) → r ≡ rated_of (packed (bin rem var (int 10))) 1 0 → r ≡ Range 0 9
+pub against_never_rates : (r : Result (Option (ℕ × ℕ)) NoTree) → r ≡ rated_of (packed (bin rem var (int 10))) 1 0 → r ≡ Ok (Some (0, 9))
 unfolding rated_of rate_tree bin_range op_range op_at op_of op_code tree_at tree_of operands_to operands all_below used member distinct shaped is_tree zeros blank integerIn is_count is_rem left_of pack nodes keep packed
 against_never_rates r promise = promise
 
 -- an evaluator stuck at 0
-pub against_stuck_at_0 : (r : resolving.Resolved) → r ≡ resolved_of (packed (int 7)) 1 0 5 → r ≡ Form 7
+pub against_stuck_at_0 : (r : Result ℕ NoForm) → r ≡ resolved_of (packed (int 7)) 1 0 5 → r ≡ Ok 7
 unfolding resolved_of eval_tree op_at op_of op_code tree_at tree_of operands_to operands all_below used member distinct shaped is_tree zeros blank integerIn is_count is_rem left_of pack nodes keep packed
 against_stuck_at_0 r promise = promise
 

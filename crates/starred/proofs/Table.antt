@@ -4,6 +4,7 @@ use Prim.Native.Nat.{ℕ, ◌-◌}
 use mathlib.Core.Path.{◌≡◌, refl}
 use mathlib.Core.Bool.{Bool, true, false}
 use mathlib.Core.List.{List, [], map}
+use Rattle.std.specs.Prelude.{Option, Some, None}
 use Rattle.text.specs.Bytes.{front, all, same, begins, first}
 use Rattle.text.specs.Cut.{cut, every}
 use Rattle.text_trim.specs.Trim.{trim, trim_start, trim_end, edge_after, lead, encode}
@@ -19,10 +20,6 @@ use Rattle.rules.specs.Pool.{tree_at, tree_of, operands_to, operands, all_below,
 use Rattle.rules.specs.Store.{zeros, blank}
 use Rattle.rules.specs.Pack.{number_of as integerIn, is_count, is_rem, left_of, pack, nodes, keep, packed_size, packed}
 use Rattle.rules.specs.Answer.{resolved_of}
-use Rattle.rules.specs.declared.Value.{Value}
-use Rattle.rules.specs.declared.Value.TheVariants.{Is, ZeroModulus}
-use Rattle.rules.specs.declared.Rating.{Rating}
-use Rattle.rules.specs.declared.Rating.TheVariants.{Range, Unrated}
 use Rattle.reading_grammar.specs.Tokens.{tokens, lex}
 use Rattle.reading_grammar.specs.Reading.{standard}
 use Rattle.text_digits.specs.Digits.{digits_from, integer}
@@ -67,13 +64,13 @@ counted s key n (accepted t r x) =
     let a = lookup.plural s t (resolved_of (packed r) (packed_size r) (packed_size r - 1) n) (last_with s t key) in texted (lookup.number a) (plural_text n a)
 counted s key n (refused r) = number (number_of r.error)
 
-abbrev valued : Value → Said
-valued (Is x) = form x
-valued ZeroModulus = number (number_of error.ZeroModulus)
+abbrev valued : Option ℕ → Said
+valued (Some x) = form x
+valued None = number (number_of error.ZeroModulus)
 
-abbrev ranged : Rating → Said
-ranged (Range l h) = range l h
-ranged Unrated = unrated
+abbrev ranged : Option (ℕ × ℕ) → Said
+ranged (Some (l, h)) = range l h
+ranged None = unrated
 
 abbrev answered : Bool → Said
 answered true = yes

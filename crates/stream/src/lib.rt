@@ -11,6 +11,7 @@ pub fn read_full<R: Read>(from: &mut R, buffer: &mut [u8]) -> io::Result<usize>
     ensures { IfOk result (λ n. n ≤ length buffer.new) }
 {
     let mut done = 0;
+    // on by as many bytes as each read gives
     while done < buffer.len() {
         let n = from.read(&mut buffer[done..])?;
         if n == 0 {

@@ -7,28 +7,22 @@ use std::io;
 use std::io::Write;
 use text::Stretch;
 
-fn part<W: Write>(out: &mut W, h: &[u8], p: Stretch) -> io::Result<()> {
-    match p {
-        Stretch::At(start, len) => {
-            write!(out, "[")?;
-            if start <= h.len() {
-                if len <= h.len() - start {
-                    let end = start + len;
-                    out.write_all(&h[start..end])?;
-                }
-            }
-            write!(out, "]")
-        }
-        Stretch::Absent => write!(out, "-"),
+fn part<W: Write>(out: &mut W, h: &[u8], p: Option<Stretch>) -> io::Result<()> {
+    let Some(Stretch { start, len }) = p else {
+        return write!(out, "-");
+    };
+    write!(out, "[")?;
+    if let Some(bytes) = h.get(start..).and_then(|rest| rest.get(..len)) {
+        out.write_all(bytes)?;
     }
+    write!(out, "]")
 }
 
 fn shows<W: Write>(out: &mut W, h: &[u8]) -> io::Result<()> {
-    let metadata = header::parse_metadata(h);
-    match metadata {
-        Metadata::Malformed => write!(out, "4")?,
-        Metadata::Fields(label, rule, _) => {
-            part(out, h, label)?;
+    match header::parse_metadata(h) {
+        None => write!(out, "4")?,
+        Some(Metadata { charset, rule, .. }) => {
+            part(out, h, charset)?;
             write!(out, " ")?;
             part(out, h, rule)?;
         }
@@ -36,71 +30,49 @@ fn shows<W: Write>(out: &mut W, h: &[u8]) -> io::Result<()> {
     writeln!(out)
 }
 
-fn is_label<W: Write>(out: &mut W, s: &[u8]) -> io::Result<()> {
-    if header::is_utf8_label(s) {
-        write!(out, "1")
-    } else {
-        write!(out, "0")
-    }
-}
+const HEADERS: [&[u8]; 23] = [
+    b"",
+    b"\n\n",
+    b" ",
+    b"\r\n",
+    b"x",
+    b":",
+    b"Content-Type: text/plain; charset=UTF-8\nPlural-Forms: nplurals=2; plural=n != 1;\n",
+    b"Content-Type:charset=a charset=b",
+    b"content-type:charset=a\nPlural-forms:plural=n",
+    b"Content-Type:charset=a\nContent-Type:none",
+    b"Plural-Forms:plural=1;plural=2\nPlural-Forms:x",
+    b"Plural-Forms:plural=1; plural = n > 1 ;n_plurals=2",
+    b"Plural-Forms:plurals=1;a plural=2;=3;plural",
+    b"Plural-Forms:plural=",
+    b"Plural-Forms\x0b:\x0c plural\t=\r n\x0b",
+    b"Content-Type:charset=\x0butf-8\x0b",
+    b"Content-Type:Charset=a",
+    b"A:b\n\nPlural-Forms:plural=n\nB:c\nno colon",
+    b"\xc2\xa0Plural-Forms\xe3\x80\x80:\xe2\x80\xafplural=\xc2\x85n\xe2\x80\xa8;",
+    b"Plural-Forms:nplurals=2;\xc2\xa0plural=n",
+    b"\xe2\x80\x8bPlural-Forms:plural=n",
+    b"Content-Type:charset=utf-8\xe1\x9a\x80",
+    b"\xc2\xa0",
+];
 
-fn headers_1<W: Write>(out: &mut W) -> io::Result<()> {
-    shows(out, b"")?;
-    shows(out, b"\n\n")?;
-    shows(out, b" ")?;
-    shows(out, b"\r\n")?;
-    shows(out, b"x")?;
-    shows(out, b":")
-}
-
-fn headers_2<W: Write>(out: &mut W) -> io::Result<()> {
-    shows(
-        out,
-        b"Content-Type: text/plain; charset=UTF-8\nPlural-Forms: nplurals=2; plural=n != 1;\n",
-    )?;
-    shows(out, b"Content-Type:charset=a charset=b")?;
-    shows(out, b"content-type:charset=a\nPlural-forms:plural=n")?;
-    shows(out, b"Content-Type:charset=a\nContent-Type:none")?;
-    shows(out, b"Plural-Forms:plural=1;plural=2\nPlural-Forms:x")?;
-    shows(out, b"Plural-Forms:plural=1; plural = n > 1 ;n_plurals=2")
-}
-
-fn headers_3<W: Write>(out: &mut W) -> io::Result<()> {
-    shows(out, b"Plural-Forms:plurals=1;a plural=2;=3;plural")?;
-    shows(out, b"Plural-Forms:plural=")?;
-    shows(out, b"Plural-Forms\x0b:\x0c plural\t=\r n\x0b")?;
-    shows(out, b"Content-Type:charset=\x0butf-8\x0b")?;
-    shows(out, b"Content-Type:Charset=a")?;
-    shows(out, b"A:b\n\nPlural-Forms:plural=n\nB:c\nno colon")
-}
-
-fn headers_4<W: Write>(out: &mut W) -> io::Result<()> {
-    shows(
-        out,
-        b"\xc2\xa0Plural-Forms\xe3\x80\x80:\xe2\x80\xafplural=\xc2\x85n\xe2\x80\xa8;",
-    )?;
-    shows(out, b"Plural-Forms:nplurals=2;\xc2\xa0plural=n")?;
-    shows(out, b"\xe2\x80\x8bPlural-Forms:plural=n")?;
-    shows(out, b"Content-Type:charset=utf-8\xe1\x9a\x80")?;
-    shows(out, b"\xc2\xa0")
-}
-
-fn labels<W: Write>(out: &mut W) -> io::Result<()> {
-    is_label(out, b"utf-8")?;
-    is_label(out, b"UTF8")?;
-    is_label(out, b" Unicode-1-1-UTF-8\r\n")?;
-    is_label(out, b"\x0butf-8")?;
-    is_label(out, b"")?;
-    is_label(out, b"latin1")?;
-    is_label(out, b"utf-88")?;
-    writeln!(out)
-}
+const LABELS: [&[u8]; 7] = [
+    b"utf-8",
+    b"UTF8",
+    b" Unicode-1-1-UTF-8\r\n",
+    b"\x0butf-8",
+    b"",
+    b"latin1",
+    b"utf-88",
+];
 
 fn main(rt: HostRuntime) -> io::Result<()> {
     let out = &mut io::writer(&rt);
-    headers_1(out)?;
-    headers_2(out)?;
-    headers_3(out)?;
-    headers_4(out)?;
-    labels(out)
+    for header in HEADERS {
+        shows(out, header)?;
+    }
+    for label in LABELS {
+        write!(out, "{}", u32::from(header::is_utf8_label(label)))?;
+    }
+    writeln!(out)
 }

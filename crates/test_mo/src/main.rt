@@ -13,19 +13,26 @@ fn show(rt: &(impl Files + Print), name: &str) -> io::Result<()> {
     }
 }
 
+const FILES: [&str; 14] = [
+    "empty.mo",
+    "full.mo",
+    "large.mo",
+    "unrated.mo",
+    "magic.mo",
+    "offset.mo",
+    "original.mo",
+    "misplaced.mo",
+    "translation.mo",
+    "count.mo",
+    "colon.mo",
+    "refused.mo",
+    "rule.mo",
+    "long.mo",
+];
+
 fn main(rt: HostRuntime) -> io::Result<()> {
-    show(&rt, "empty.mo")?;
-    show(&rt, "full.mo")?;
-    show(&rt, "large.mo")?;
-    show(&rt, "unrated.mo")?;
-    show(&rt, "magic.mo")?;
-    show(&rt, "offset.mo")?;
-    show(&rt, "original.mo")?;
-    show(&rt, "misplaced.mo")?;
-    show(&rt, "translation.mo")?;
-    show(&rt, "count.mo")?;
-    show(&rt, "colon.mo")?;
-    show(&rt, "refused.mo")?;
-    show(&rt, "rule.mo")?;
-    show(&rt, "long.mo")
+    for name in FILES {
+        show(&rt, name)?;
+    }
+    Ok(())
 }

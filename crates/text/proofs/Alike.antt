@@ -1,26 +1,21 @@
 -- Two texts of one length compared as one text of flags, so that what is proved of runs of bytes serves. Assumes nothing.
 use Prim.Native.Nat.{ℕ, zero, suc, ◌+◌, ◌-◌, ◌<◌, ◌≤◌}
 use mathlib.Core.Path.{◌≡◌, refl, sym, ap, ◌∙◌}
-use mathlib.Core.Bool.{Bool, true, false, ◌&&◌}
+use mathlib.Core.Bool.{Bool, false}
 use mathlib.Core.List.{List, [], ◌∷◌}
 use native.Mathlib.Omega.{arith}
 use lib.ListN.{length, get_or, drop}
 use lib.Dec.{leb, eqb}
+use Rattle.text.proofs.Same.{as_written, other_length}
 use Rattle.text.specs.Bytes.{all, front, same}
 use lib.Bits.{bit_or}
 use Rattle.text.specs.Private.{Flags, Blocks, differ_of, differences, alike}
 use borrow.Author.Tests.{eq-eqb, ne_eqb}
 use Rattle.text.proofs.All.{block_left, by_last}
-use Rattle.text.proofs.Flags.{Gathered, gathered_more}
+use Rattle.text.proofs.Flags.{Gathered, gathered_more, gathered_none, gathered_all}
 use Rattle.text.proofs.Tests.{taken, left, by_test}
 
 -- the flag of two bytes
-pub differ_same : (a b : ℕ) → a ≡ b → differ_of a b ≡ 0
-differ_same a b e = taken 0 1 (eq-eqb a b e)
-
-pub differ_other : (a b : ℕ) → (a ≡ b → ⊥) → differ_of a b ≡ 1
-differ_other a b h = left 0 1 (ne_eqb a b h)
-
 pub differ_flags : (a b : ℕ) → Flags alike (differ_of a b) (differ_of a b)
 differ_flags a b = of_flag (differ_of a b) few
   where
@@ -82,3 +77,8 @@ module _ (p s : List ℕ) (h : length s ≡ length p) {i : ℕ} (b : Blocks alik
       let z = differences_length p s h in
       by_last alike (differences p s) b (omega (arith, z)) (omega (arith, z)) (e ∙ ap (λ (n : ℕ). leb 16 (front alike (drop (n - 16) (differences p s)))) (sym z))
       ∙ all_alike p s h
+
+-- what `same_block` and `equal` may use
+pub ruleset alike_cases = (gathered_none, alike_more, gathered_all)
+
+pub ruleset equal_cases = (as_written, other_length, blocks_inside, block_unlike, last_alike)

@@ -84,3 +84,6 @@ within_one x b =
 -- the bytes up to the first x are those that are not within x and x
 pub place_run : (x : ℕ) (s : List ℕ) → front (λ b. not (within (x, x) b)) s ≡ place x s
 place_run x s = front_same (λ b. not (within (x, x) b)) (λ b. not (eqb b x)) (λ b. ap not (within_one x b)) s
+
+-- what `all_within` may use
+pub ruleset all_cases = (all_by_front, block_left, by_last)

@@ -4,8 +4,7 @@ use mathlib.Core.Path.{◌≡◌, refl}
 use mathlib.Core.Bool.{Bool, true, false, ◌&&◌}
 use mathlib.Core.List.{List, [], ◌∷◌, map}
 use Rattle.text.specs.Bytes.{bytes, within, all, same, begins, first, read}
-use Rattle.text.specs.declared.Found.{Found}
-use Rattle.text.specs.declared.Found.TheVariants.{At, Nowhere}
+use Rattle.std.specs.Prelude.{Option, Some, None}
 use Rattle.text.specs.declared.Case.TheVariants.{Small}
 
 -- a text and another: whether they are the same, and are with the first in small letters, whether the first begins with the other, and where
@@ -16,34 +15,34 @@ pub record Row : Type 0 where
   pub equal : Bool
   pub equal_small : Bool
   pub starts : Bool
-  pub found : Found
+  pub found : Option ℕ
 
-abbrev row : List ℕ → List ℕ → Bool → Bool → Bool → Found → Row
+abbrev row : List ℕ → List ℕ → Bool → Bool → Bool → Option ℕ → Row
 row s t e m b f = record { text = s; other = t; equal = e; equal_small = m; starts = b; found = f }
 
 abbrev pub rows : List Row
 rows =
-    row (bytes "utf-8") (bytes "utf-8") true true true (At 0)
-    ∷ row (bytes "UTF-8") (bytes "utf-8") false true false Nowhere
+    row (bytes "utf-8") (bytes "utf-8") true true true (Some 0)
+    ∷ row (bytes "UTF-8") (bytes "utf-8") false true false None
     -- the other is taken as it is
-    ∷ row (bytes "utf-8") (bytes "UTF-8") false false false Nowhere
-    ∷ row (bytes "utf-8") (bytes "utf-") false false true (At 0)
+    ∷ row (bytes "utf-8") (bytes "UTF-8") false false false None
+    ∷ row (bytes "utf-8") (bytes "utf-") false false true (Some 0)
     -- the first of two places, and one that a search without going back passes over
-    ∷ row (bytes "text/plain; charset=charset=") (bytes "charset=") false false false (At 12)
-    ∷ row (bytes "chcharset") (bytes "charset") false false false (At 2)
+    ∷ row (bytes "text/plain; charset=charset=") (bytes "charset=") false false false (Some 12)
+    ∷ row (bytes "chcharset") (bytes "charset") false false false (Some 2)
     -- the bytes beside A and Z are no letters
-    ∷ row (bytes "[@AZ{`") (bytes "[@az{`") false true false Nowhere
-    ∷ row (bytes "[") (bytes "{") false false false Nowhere
-    ∷ row (bytes "@") (bytes "`") false false false Nowhere
-    ∷ row [] [] true true true (At 0)
-    ∷ row (bytes "x") [] false false true (At 0)
-    ∷ row [] (bytes "x") false false false Nowhere
+    ∷ row (bytes "[@AZ{`") (bytes "[@az{`") false true false None
+    ∷ row (bytes "[") (bytes "{") false false false None
+    ∷ row (bytes "@") (bytes "`") false false false None
+    ∷ row [] [] true true true (Some 0)
+    ∷ row (bytes "x") [] false false true (Some 0)
+    ∷ row [] (bytes "x") false false false None
     ∷ []
 
-abbrev pub said : Row → Bool × Bool × Bool × Found
+abbrev pub said : Row → Bool × Bool × Bool × Option ℕ
 said r = (r.equal, r.equal_small, r.starts, r.found)
 
-abbrev pub computed : Row → Bool × Bool × Bool × Found
+abbrev pub computed : Row → Bool × Bool × Bool × Option ℕ
 computed r =
     (same r.other r.text, same r.other (map (read Small) r.text), begins r.other r.text, first r.other r.text)
 

@@ -58,3 +58,6 @@ module _ {w : ℕ → Bool} {s : List ℕ} {i : ℕ} where
   pub gathered_all : {k n : ℕ} (z : ℕ) → k ≡ n → Gathered w s i k z → eqb z 0 ≡ leb n (front w (drop i s))
   gathered_all {k} {n} zero e g = sym (le-leb n (front w (drop i s)) (omega (arith, g.none refl)))
   gathered_all {k} {n} (suc z) e g = ne_eqb (suc z) 0 (λ e. omega arith) ∙ sym (lt-leb n (front w (drop i s)) (omega (arith, g.some (λ e. omega arith))))
+
+-- what `block` may use
+pub ruleset gathered_cases = (gathered_none, gathered_more, gathered_all)

@@ -85,3 +85,6 @@ module _ (p s : List ℕ) (lo : ℕ) where
 
   pub same_from_none : (length s ≡ length p → ⊥) → false ≡ (same p s && all (within (lo, 255)) p)
   same_from_none h = rw (other_length p s h)
+
+-- what `same_from` may use
+pub ruleset same_from_cases = (least_same, same_from_zero, same_from_none)

@@ -80,3 +80,8 @@ pub same_refl : (s : List ℕ) → same s s ≡ true
 unfolding same
 same_refl [] = refl
 same_refl (b ∷ s) = rw (eq-eqb b b refl, same_refl s)
+
+-- what `begins_so` and `equal_so` may use
+pub ruleset agree_cases = (short, agree_more, agree_fail, agree_end)
+
+pub ruleset same_cases = (whole, unequal)

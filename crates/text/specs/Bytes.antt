@@ -1,11 +1,9 @@
 -- Small questions about texts of bytes that several layers ask.
-use Rattle.std.specs.Prelude.{ℕ, suc, ◌+◌, Bool, true, false, not, ◌&&◌, List, [], ◌∷◌, leb, eqb}
+use Rattle.std.specs.Prelude.{ℕ, suc, ◌+◌, Bool, true, false, not, ◌&&◌, List, [], ◌∷◌, leb, eqb, Option, Some, None}
 use Prim.Native.Char.{code}
 use Prim.Native.String as Str
 use Rattle.text.specs.declared.Case.{Case}
 use Rattle.text.specs.declared.Case.TheVariants.{AsWritten, Small}
-use Rattle.text.specs.declared.Found.{Found}
-use Rattle.text.specs.declared.Found.TheVariants.{At, Nowhere}
 
 -- the bytes of an ASCII text in quotes
 abbrev pub bytes : Str.String → List ℕ
@@ -43,15 +41,15 @@ begins [] s = true
 begins (p ∷ ps) [] = false
 begins (p ∷ ps) (b ∷ s) = eqb p b && begins ps s
 
-abbrev pub next : Found → Found
-next (At i) = At (suc i)
-next Nowhere = Nowhere
+abbrev pub next : Option ℕ → Option ℕ
+next (Some i) = Some (suc i)
+next None = None
 
 -- the first place at which the pattern stands
-unfoldable pub first : List ℕ → List ℕ → Found
+unfoldable pub first : List ℕ → List ℕ → Option ℕ
 unfolding begins
-first p [] = elim (begins p []) [ true ↦ At 0 | false ↦ Nowhere ]
-first p (b ∷ s) = elim (begins p (b ∷ s)) [ true ↦ At 0 | false ↦ next (first p s) ]
+first p [] = elim (begins p []) [ true ↦ Some 0 | false ↦ None ]
+first p (b ∷ s) = elim (begins p (b ∷ s)) [ true ↦ Some 0 | false ↦ next (first p s) ]
 
 -- A to Z as a to z, every other byte as it is
 abbrev pub small : ℕ → ℕ

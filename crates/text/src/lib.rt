@@ -3,30 +3,24 @@
 #![tactic(auto)]
 
 ghost use Rattle.std.specs.Prelude.{◌≡◌, ◌&&◌, map, ◌+◌, ◌≤◌, length, drop, leb};
-ghost use Rattle.text.specs.Bytes.{within, all, front, place, same, begins, first, small, read};
+ghost use Rattle.text.specs.Bytes.{within, all, front, place, same, begins, first, read};
 ghost use Rattle.text.specs.Private.{in_run, Flags, Blocks, differ_of, differences, alike, common_of, Least};
 
-// A part of a text, its start and its length, or none.
+// A part of a text: where it starts, and how long it is.
 #[derive(Clone, Copy)]
-pub enum Stretch {
-    At(usize, usize),
-    Absent,
+pub struct Stretch {
+    pub start: usize,
+    pub len: usize,
 }
 
-// 1 for a byte that is not within the bounds.
+// 1 for a byte that is not within the bounds. A number and no `bool`, as is what `ends` and `differ` give: `block` gathers them at once.
 fn outside(b: u8, lo: u8, hi: u8) -> u8
     ensures { Flags (within (lo, hi)) b result }
 {
-    if b < lo {
-        return 1;
-    }
-    if hi < b {
-        return 1;
-    }
-    0
+    u8::from(b < lo || hi < b)
 }
 
-// What a run is made of: bytes within the bounds, or bytes that are not.
+// What a run is made of: bytes within the bounds, or bytes that are not. A closure is no plainer: each promise here names the choice.
 #[derive(Clone, Copy)]
 enum Run {
     Within,
@@ -45,15 +39,14 @@ fn ends(b: u8, lo: u8, hi: u8, run: Run) -> u8
 
 // Whether a block of 16 bytes goes on with the run. The flags are gathered by a loop of fixed length and not tested one by one, so that
 // the machine takes the block at once.
+#[tactic(auto, using(crate::proofs::Flags::gathered_cases))]
 fn block(s: &[u8], i: usize, lo: u8, hi: u8, run: Run) -> bool
     requires { i + 16 ≤ length s.now }
     ensures { result ≡ leb 16 (front (in_run run (lo, hi)) (drop i s.now)) }
 {
-    let mut z: u8 = 0;
-    let mut k = 0;
-    while k < 16 {
-        z = z | ends(s[i + k], lo, hi, run);
-        k += 1;
+    let mut z = 0;
+    for k in 0..16 {
+        z |= ends(s[i + k], lo, hi, run);
     }
     z == 0
 }
@@ -63,14 +56,10 @@ fn blocks(s: &[u8], from: usize, lo: u8, hi: u8, run: Run) -> usize
     requires { from ≤ length s.now }
     ensures { Blocks (in_run run (lo, hi)) s.now from result }
 {
-    let n = s.len();
     let mut i = from;
-    while 16 <= n - i {
-        if block(s, i, lo, hi, run) {
-            i += 16;
-        } else {
-            return i;
-        }
+    // block by block
+    while 16 <= s.len() - i && block(s, i, lo, hi, run) {
+        i += 16;
     }
     i
 }
@@ -81,26 +70,21 @@ fn run_end(s: &[u8], from: usize, lo: u8, hi: u8, run: Run) -> usize
     ensures { result ≡ from + front (in_run run (lo, hi)) (drop from s.now) }
 {
     let n = s.len();
-    let mut i = blocks(s, from, lo, hi, run);
+    let past = blocks(s, from, lo, hi, run);
     // the last block again takes in bytes that were seen, and spares the loop below where the run goes on to the end
-    if n - i < 16 {
-        if 16 <= n - from {
-            if block(s, n - 16, lo, hi, run) {
-                return n;
-            }
-        }
+    if n - past < 16 && 16 <= n - from && block(s, n - 16, lo, hi, run) {
+        return n;
     }
-    while i < n {
-        if ends(s[i], lo, hi, run) == 0 {
-            i += 1;
-        } else {
+    for i in past..n {
+        if ends(s[i], lo, hi, run) != 0 {
             return i;
         }
     }
-    i
+    n
 }
 
 // The first place from a place on of a byte that is not within the bounds, or the text's length; past the end that place itself.
+#[tactic(auto, using(crate::proofs::Front::counted_end))]
 pub fn span(s: &[u8], from: usize, lo: u8, hi: u8) -> usize
     ensures { result ≡ from + front (within (lo, hi)) (drop from s.now) }
 {
@@ -111,6 +95,7 @@ pub fn span(s: &[u8], from: usize, lo: u8, hi: u8) -> usize
 }
 
 // Whether all bytes are within the bounds. Where they are not, nothing looks for the place.
+#[tactic(auto, using(crate::proofs::All::all_cases))]
 pub fn all_within(s: &[u8], lo: u8, hi: u8) -> bool
     ensures { result ≡ all (within (lo, hi)) s.now }
 {
@@ -118,13 +103,11 @@ pub fn all_within(s: &[u8], lo: u8, hi: u8) -> bool
     if n < 16 {
         return run_end(s, 0, lo, hi, Run::Within) == n;
     }
-    if 16 <= n - blocks(s, 0, lo, hi, Run::Within) {
-        return false;
-    }
-    block(s, n - 16, lo, hi, Run::Within)
+    n - blocks(s, 0, lo, hi, Run::Within) < 16 && block(s, n - 16, lo, hi, Run::Within)
 }
 
 // The first place of a byte from a place on, or the text's length; past the end that place itself.
+#[tactic(auto, using(crate::proofs::Front::counted_end))]
 pub fn find_byte_from(s: &[u8], at: usize, x: u8) -> usize
     ensures { result ≡ at + place x (drop at s.now) }
 {
@@ -141,48 +124,35 @@ pub fn find_byte(s: &[u8], x: u8) -> usize
     find_byte_from(s, 0, x)
 }
 
-// How the letters of a text are read.
+// How the letters of a text are read. The definitions, which may not change, speak of this very choice.
 #[derive(Clone, Copy)]
 pub enum Case {
     AsWritten,
     Small,
 }
 
-// A byte with A to Z made a to z.
-fn to_small(b: u8) -> u8
-    ensures { result ≡ small b }
-{
-    if b < b'A' {
-        return b;
-    }
-    if b'Z' < b {
-        return b;
-    }
-    b + 32
-}
-
+// A byte as it is read: as it is, or with A to Z made a to z.
 fn letter(case: Case, b: u8) -> u8
     ensures { result ≡ read case b }
 {
     match case {
         Case::AsWritten => b,
-        Case::Small => to_small(b),
+        Case::Small => b.to_ascii_lowercase(),
     }
 }
 
 // Whether the text, its letters read so, begins with the pattern.
+#[tactic(auto, using(crate::proofs::Same::agree_cases))]
 fn begins_so(s: &[u8], pattern: &[u8], case: Case) -> bool
     ensures { result ≡ begins pattern.now (map (read case) s.now) }
 {
     if s.len() < pattern.len() {
         return false;
     }
-    let mut i = 0;
-    while i < pattern.len() {
+    for i in 0..pattern.len() {
         if letter(case, s[i]) != pattern[i] {
             return false;
         }
-        i += 1;
     }
     true
 }
@@ -195,32 +165,29 @@ pub fn starts_with(s: &[u8], pattern: &[u8]) -> bool
 }
 
 // Whether the text, its letters read so, is the other text.
+#[tactic(auto, using(crate::proofs::Same::same_cases))]
 fn equal_so(s: &[u8], other: &[u8], case: Case) -> bool
     ensures { result ≡ same other.now (map (read case) s.now) }
 {
-    if s.len() != other.len() {
-        return false;
-    }
-    begins_so(s, other, case)
+    s.len() == other.len() && begins_so(s, other, case)
 }
 
 // 1 for two bytes that differ.
 fn differ(a: u8, b: u8) -> u8
     ensures { result ≡ differ_of a b }
 {
-    if a == b { 0 } else { 1 }
+    u8::from(a != b)
 }
 
 // Whether two texts have the same 16 bytes at a place. The flags are gathered as in `block`.
+#[tactic(auto, using(crate::proofs::Alike::alike_cases))]
 fn same_block(s: &[u8], other: &[u8], i: usize) -> bool
     requires { (i + 16 ≤ length s.now) × (length s.now ≡ length other.now) }
     ensures { result ≡ leb 16 (front alike (drop i (differences other.now s.now))) }
 {
-    let mut z: u8 = 0;
-    let mut k = 0;
-    while k < 16 {
-        z = z | differ(other[i + k], s[i + k]);
-        k += 1;
+    let mut z = 0;
+    for k in 0..16 {
+        z |= differ(other[i + k], s[i + k]);
     }
     z == 0
 }
@@ -230,19 +197,16 @@ fn same_blocks(s: &[u8], other: &[u8]) -> usize
     requires { length s.now ≡ length other.now }
     ensures { Blocks alike (differences other.now s.now) 0 result }
 {
-    let n = s.len();
     let mut at = 0;
-    while 16 <= n - at {
-        if same_block(s, other, at) {
-            at += 16;
-        } else {
-            return at;
-        }
+    // block by block
+    while 16 <= s.len() - at && same_block(s, other, at) {
+        at += 16;
     }
     at
 }
 
 // Whether two texts are the same: by blocks, the last of which ends with them, or byte by byte where they are short.
+#[tactic(auto, using(crate::proofs::Alike::equal_cases))]
 pub fn equal(s: &[u8], other: &[u8]) -> bool
     ensures { result ≡ same other.now s.now }
 {
@@ -253,10 +217,7 @@ pub fn equal(s: &[u8], other: &[u8]) -> bool
     if n != other.len() {
         return false;
     }
-    if 16 <= n - same_blocks(s, other) {
-        return false;
-    }
-    same_block(s, other, n - 16)
+    n - same_blocks(s, other) < 16 && same_block(s, other, n - 16)
 }
 
 // The byte that two texts have in common at a place, or 0 where they differ.
@@ -272,13 +233,8 @@ fn least(s: &[u8], other: &[u8], i: usize, most: u8) -> u8
     ensures { Least s.now other.now i (i + 16) most result }
 {
     let mut z = most;
-    let mut k = 0;
-    while k < 16 {
-        let v = common(s[i + k], other[i + k]);
-        if v < z {
-            z = v;
-        }
-        k += 1;
+    for k in 0..16 {
+        z = z.min(common(s[i + k], other[i + k]));
     }
     z
 }
@@ -288,17 +244,10 @@ fn least_four(s: &[u8], other: &[u8], i: usize, j: usize, most: u8) -> u8
     requires { (i ≤ j) × (j ≤ i + 32) × (j + 32 ≤ length s.now) × (length s.now ≡ length other.now) }
     ensures { Least s.now other.now i (j + 32) most result }
 {
-    least(
-        s,
-        other,
-        j + 16,
-        least(
-            s,
-            other,
-            j,
-            least(s, other, i + 16, least(s, other, i, most)),
-        ),
-    )
+    let one = least(s, other, i, most);
+    let two = least(s, other, i + 16, one);
+    let three = least(s, other, j, two);
+    least(s, other, j + 16, three)
 }
 
 // The least byte that two texts have in common, byte by byte.
@@ -306,14 +255,9 @@ fn least_short(s: &[u8], other: &[u8]) -> u8
     requires { length s.now ≡ length other.now }
     ensures { Least s.now other.now 0 (length s.now) 255 result }
 {
-    let mut z: u8 = 255;
-    let mut k = 0;
-    while k < s.len() {
-        let v = common(s[k], other[k]);
-        if v < z {
-            z = v;
-        }
-        k += 1;
+    let mut z = u8::MAX;
+    for k in 0..s.len() {
+        z = z.min(common(s[k], other[k]));
     }
     z
 }
@@ -328,13 +272,14 @@ fn least_of(s: &[u8], other: &[u8]) -> u8
         return least_short(s, other);
     }
     if n <= 32 {
-        return least(s, other, n - 16, least(s, other, 0, 255));
+        return least(s, other, n - 16, least(s, other, 0, u8::MAX));
     }
     if n <= 64 {
-        return least_four(s, other, 0, n - 32, 255);
+        return least_four(s, other, 0, n - 32, u8::MAX);
     }
-    let mut z: u8 = 255;
+    let mut z = u8::MAX;
     let mut i = 0;
+    // four blocks at a time
     while 64 < n - i {
         z = least_four(s, other, i, i + 32, z);
         i += 64;
@@ -343,16 +288,14 @@ fn least_of(s: &[u8], other: &[u8]) -> u8
 }
 
 // Whether two texts are the same and have no byte below a bound, in one pass: the least byte that they have in common tells both.
+#[tactic(auto, using(crate::proofs::Lowest::same_from_cases))]
 pub fn same_from(s: &[u8], other: &[u8], lo: u8) -> bool
     ensures { result ≡ (same other.now s.now && all (within (lo, 255)) other.now) }
 {
     if lo == 0 {
         return equal(s, other);
     }
-    if s.len() != other.len() {
-        return false;
-    }
-    lo <= least_of(s, other)
+    s.len() == other.len() && lo <= least_of(s, other)
 }
 
 // Whether a text in small letters is the other text.
@@ -363,25 +306,18 @@ pub fn equal_small(s: &[u8], other: &[u8]) -> bool
 }
 
 // Where a pattern stands first.
-#[derive(Clone, Copy)]
-pub enum Found {
-    At(usize),
-    Nowhere,
-}
-
-pub fn find(s: &[u8], pattern: &[u8]) -> Found
+#[tactic(auto, using(crate::proofs::Sought::sought_cases))]
+pub fn find(s: &[u8], pattern: &[u8]) -> Option<usize>
     ensures { result ≡ first pattern.now s.now }
 {
-    let mut i = 0;
-    while i < s.len() {
+    for i in 0..s.len() {
         if starts_with(&s[i..], pattern) {
-            return Found::At(i);
+            return Some(i);
         }
-        i += 1;
     }
     // only a pattern of no bytes stands at the end
-    if pattern.len() == 0 {
-        return Found::At(i);
+    if pattern.is_empty() {
+        return Some(s.len());
     }
-    Found::Nowhere
+    None
 }

@@ -6,13 +6,13 @@ use contract.Lifetimes.{Lfts}
 use denote.Triple.Clauses.{AtExit}
 use borrow.Fn.Kinds.{Dens, res_t, ended_of}
 use Rattle.promise.proofs.One.{One}
-use Rattle.text_trim.specs.declared.Part.{Part}
+use Rattle.text.specs.declared.Stretch.{Stretch}
 use Rattle.text_trim.proofs.trimmed.Reads as trimmed
 use Rattle.text_trim.proofs.trimmed.Kinds as trimmed-kinds
 use Rattle.text_trim.proofs.trim.Reads as trim
 use Rattle.text_trim.proofs.trim.Kinds as trim-kinds
 
-abbrev part : ℕ → ℕ → Part
+abbrev part : ℕ → ℕ → Stretch
 part x y = record { start = x; len = y }
 
 pub trimmed_one : One 1 trimmed-kinds.ps trimmed-kinds.r trimmed.Post

@@ -254,3 +254,18 @@ eleven_six set e = rw e
 pub eleven_label : (set : Set) → set ≡ Label → 0 ≡ lead (chars_of set) (11 ∷ [])
 unfolding lead begins encode
 eleven_label set e = rw e
+
+-- what each function of the tests of bytes may use
+pub ruleset eleven_cases = (eleven_white, eleven_six, eleven_label)
+
+pub ruleset alone_cases = (alone_low, alone_blank, alone_space, alone_high, eleven_is)
+
+pub ruleset c2_cases = (c2_85, c2_a0, c2_no)
+
+pub ruleset e280_cases = (e280_low, e280_spaces, e280_one, e280_no)
+
+pub ruleset three_cases = (three_no, three_not, three_yes)
+
+pub ruleset more_cases = (more_c2, more_e1, more_e3, more_e2_80, more_e2, more_other)
+
+pub ruleset first_cases = (first_ascii, first_more, high_six, high_label)

@@ -7,7 +7,7 @@ use Rattle.text.specs.Bytes.{begins}
 unfoldable pub use Rattle.text_utf8.specs.Scalar.{encode}
 use Rattle.text_trim.specs.declared.Set.{Set}
 use Rattle.text_trim.specs.declared.Set.TheVariants.{WhiteSpace, Six, Label}
-use Rattle.text_trim.specs.declared.Part.{Part}
+use Rattle.text.specs.declared.Stretch.{Stretch}
 
 -- characters, each by the bytes of its encoding
 abbrev pub Chars : Type 0
@@ -85,6 +85,6 @@ unfolding trim_start trim_end
 trim cs s = trim_end cs (trim_start cs s)
 
 -- the trimmed part of s: where it starts, and how long it is
-pub record Trims (set : Set) (s : List ℕ) (p : Part) : Type 0 where
+pub record Trims (set : Set) (s : List ℕ) (p : Stretch) : Type 0 where
   pub start : p.start ≡ edge (chars_of set) s
   pub len : p.len ≡ length (trim (chars_of set) s)

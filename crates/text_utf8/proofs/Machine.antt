@@ -67,10 +67,10 @@ pub begins : {s : List ℕ} → Reaches s 0 0
 unfolding utf8
 begins = record { few = omega arith; is = refl }
 
-pub goes_on : {classes steps s : List ℕ} {i q : ℕ} → Tables classes steps → Reaches s i q → i < length s → get_or s i 0 < 256
-    → Reaches s (i + 1) (get_or steps (q * 16 + get_or classes (get_or s i 0) 0 % 16) 0 % 16)
-goes_on {classes} {steps} {s} {i} {q} t a h k =
-    rw (t.class (get_or s i 0) k)
+pub goes_on : {classes steps s : List ℕ} {i q b class w : ℕ} → Tables classes steps → Reaches s i q → i < length s → get_or s i 0 < 256
+    → b ≡ get_or s i 0 → class ≡ get_or classes b 0 % 16 → w ≡ get_or steps (q * 16 + class) 0 % 16 → Reaches s (i + 1) w
+goes_on {classes} {steps} {s} {i} {q} {b} {class} {w} t a h k e f g =
+    rw (g, f, e, t.class (get_or s i 0) k)
     record {
       few = t.few q (get_or s i 0) a.few k;
       is = a.is ∙ ap (reads (state_in states q)) (rest_at s i h) ∙ one_more (state_in states q) (get_or s i 0) (drop (i + 1) s) ∙ ap (λ (o : Option (List Bytes)). reads o (drop (i + 1) s)) (sym (t.step q (get_or s i 0) a.few k));

@@ -134,3 +134,8 @@ plain_right (x ∷ y ∷ s) h e f a l m =
     ∙ one_more (some (come 0 x)) y s
     ∙ ap (λ (o : Option (List Bytes)). reads o s) f
     ∙ by_places s x y (rw n at a) (come_none _ _ (rw k at m) (rw n at l))
+
+-- what `not_first` and `odd` may use
+pub ruleset first_cases = (one_byte, more_bytes)
+
+pub ruleset odd_cases = (goes_first, goes_next, begun_second, begun_third)

@@ -30,78 +30,58 @@ const STEPS: [u8; 144] = *b"\
     1511111111111111";
 
 // Whether the text is right, by the tables.
-fn by_table<'a, 'b>(classes: &'b [u8; 256], steps: &'b [u8; 144], s: &'a [u8]) -> bool
+fn by_table(classes: &[u8; 256], steps: &[u8; 144], s: &[u8]) -> bool
     requires { Tables classes.now steps.now }
     ensures { result ≡ utf8 s.now }
 {
     let mut state = 0;
-    let mut i = 0;
-    while i < s.len() {
-        let class = (classes[s[i] as usize] % 16) as usize;
-        state = (steps[state * 16 + class] % 16) as usize;
-        i += 1;
+    for &b in s {
+        let class = usize::from(classes[usize::from(b)] % 16);
+        state = usize::from(steps[state * 16 + class] % 16);
     }
     state == 0
 }
 
 // The least and the greatest byte that may follow c in its character.
-fn lowest(c: u8) -> u8
-    ensures { result ≡ (follows c).0 }
+fn follows(c: u8) -> (u8, u8)
+    ensures { result ≡ follows c }
 {
-    if c == 0xE0 {
-        return 0xA0;
+    match c {
+        0xE0 => (0xA0, 0xBF),
+        0xED => (0x80, 0x9F),
+        _ => (0x80, 0xBF),
     }
-    0x80
 }
 
-fn highest(c: u8) -> u8
-    ensures { result ≡ (follows c).1 }
-{
-    if c == 0xED {
-        return 0x9F;
-    }
-    0xBF
-}
-
-// 1 for a byte that cannot follow c in its character.
+// 1 for a byte that cannot follow c in its character. A number and no `bool`, as is what the next two give: `block` gathers them at once.
 fn not_next(c: u8, d: u8) -> u8
     ensures { result ≡ 0 → within (follows c) d ≡ true }
 {
-    if d < lowest(c) {
-        return 1;
-    }
-    if highest(c) < d {
-        return 1;
-    }
-    0
+    let (least, greatest) = follows(c);
+    u8::from(d < least || greatest < d)
 }
 
 // 1 for a byte that begins no character, or one of four bytes.
+#[tactic(auto, using(crate::proofs::Plain::first_cases))]
 fn not_first(d: u8) -> u8
     ensures { result ≡ 0 → after table d ≡ some (come 0 d) }
 {
-    if d < 0x80 {
-        return 0;
+    match d {
+        0..=0x7F | 0xC2..=0xEF => 0,
+        _ => 1,
     }
-    if d < 0xC2 {
-        return 1;
-    }
-    if d < 0xF0 {
-        return 0;
-    }
-    1
 }
 
 // 1 for a byte d that is wrong after the two bytes b and c before it, in a text without characters of four bytes.
+#[tactic(auto, using(crate::proofs::Plain::odd_cases))]
 fn odd(b: u8, c: u8, d: u8) -> u8
     ensures { result ≡ 0 → Goes b c d }
 {
-    if c < 0xC0 {
-        if b < 0xE0 {
-            return not_first(d);
-        }
+    if c < 0xC0 && b < 0xE0 {
+        not_first(d)
+    } else {
+        not_next(c, d)
     }
-    not_next(c, d)
 }
 
 // Whether none of 16 bytes is odd, each after the two before it: a block, as in `text`, from the first of those two on.
@@ -109,11 +89,9 @@ fn block(s: &[u8], i: usize) -> bool
     requires { i + 18 ≤ length s.now }
     ensures { result ≡ true → Plain s.now i (i + 16) }
 {
-    let mut z: u8 = 0;
-    let mut k = 0;
-    while k < 16 {
-        z = z | odd(s[i + k], s[i + k + 1], s[i + k + 2]);
-        k += 1;
+    let mut z = 0;
+    for k in 0..16 {
+        z |= odd(s[i + k], s[i + k + 1], s[i + k + 2]);
     }
     z == 0
 }
@@ -133,6 +111,7 @@ fn is_plain(s: &[u8]) -> bool
         return false;
     }
     let mut i = 0;
+    // block by block
     while 18 <= n - i {
         if !block(s, i) {
             return false;
@@ -142,23 +121,12 @@ fn is_plain(s: &[u8]) -> bool
     if !block(s, n - 18) {
         return false;
     }
-    if 0xE0 <= s[n - 2] {
-        return false;
-    }
-    s[n - 1] < 0xC0
+    s[n - 2] < 0xE0 && s[n - 1] < 0xC0
 }
 
-// The UTF-8 test: RFC 3629. The tables are made for a text that the quick tests do not pass, and not for each byte.
+// The UTF-8 test: RFC 3629. The tables are asked of a text that the quick tests do not pass.
 pub fn is_utf8(s: &[u8]) -> bool
     ensures { result ≡ utf8 s.now }
 {
-    if text::all_within(s, 0, 0x7F) {
-        return true;
-    }
-    if is_plain(s) {
-        return true;
-    }
-    let classes = CLASSES;
-    let steps = STEPS;
-    by_table(&classes, &steps, s)
+    text::all_within(s, 0, 0x7F) || is_plain(s) || by_table(&CLASSES, &STEPS, s)
 }

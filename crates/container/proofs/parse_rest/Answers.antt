@@ -1,16 +1,17 @@
-use mathlib.Core.Path.{refl}
+use mathlib.Core.Path.{ap, ◌∙◌}
 use native.Mathlib.Omega.{arith}
+use Rattle.std.specs.Prelude.{Err}
+use Rattle.std.proofs.lemmas.Result.{err_from_is_err_and}
 use Rattle.container.proofs.Rest.{left_none, left_stop, left_more}
 use Rattle.container.proofs.parse_rest.Goals as goal
 
-pub loop-i-init : goal.loop-i-init
-loop-i-init c = refl
-
-pub returns-in_default : goal.returns-in_default
-returns-in_default c = left_stop _ _ _ c.loop-i.invariant (omega (arith, c.loop-i-test.true, c.wide-count.ensures.0)) c.parse_entry.ensures c.entry_outcome-passed.ensures c.in_default.is
+pub returns-in_err-parse_entry : goal.returns-in_err-parse_entry
+returns-in_err-parse_entry c =
+    let k = err_from_is_err_and c.from_residual.result c.from_residual.ensures.1 in
+    k.1 ∙ ap Err k.2 ∙ left_stop _ _ _ c.loop-i.invariant (omega (arith, c.wide-i-end.ensures.0)) c.parse_entry.ensures c.in_err-parse_entry.was
 
 pub loop-i-preserved : goal.loop-i-preserved
-loop-i-preserved c = left_more _ _ _ c.loop-i.invariant (omega (arith, c.loop-i-test.true, c.wide-count.ensures.0)) c.parse_entry.ensures c.entry_outcome-passed.ensures c.in-Loaded.is
+loop-i-preserved c = left_more _ _ _ c.loop-i.invariant (omega (arith, c.wide-i-end.ensures.0)) c.parse_entry.ensures c.in_ok-parse_entry.was
 
 pub returns : goal.returns
-returns c = left_none _ _ _ c.loop-i.invariant (omega (arith, c.loop-i-test.false, c.wide-count.ensures.0))
+returns c = left_none _ _ _ c.loop-i.invariant (omega (arith, c.wide-i-end.ensures.0))

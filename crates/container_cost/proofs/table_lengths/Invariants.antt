@@ -1,11 +1,7 @@
--- The loop's invariant: the sum is that of the cells before i, all of which lie in the file. The measure is how many are left. Assumes nothing.
-use Prim.Native.Nat.{◌-◌, ◌≤◌}
+-- The loop's invariant: the sum is that of the cells before i, all of which lie in the file. Assumes nothing.
 use mathlib.Core.Path.{◌≡◌}
 use Rattle.container_cost.specs.Cost.{lengths, capped}
 use Rattle.container_cost.proofs.table_lengths.Given as goal
 
 abbrev pub invariant-loop-i : goal.invariant-loop-i
-invariant-loop-i l = (l.i ≤ l.n) × (l.sum ≡ capped (lengths l.big l.file l.table l.i))
-
-abbrev pub decreases-loop-i : goal.decreases-loop-i
-decreases-loop-i l = l.n - l.i
+invariant-loop-i l = l.sum ≡ capped (lengths l.big l.file l.table l.i)

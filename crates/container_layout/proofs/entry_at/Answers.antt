@@ -5,23 +5,26 @@ use Rattle.container_layout.proofs.Entries.{no_original, no_id, no_translation, 
 use native.Mathlib.Omega.{arith}
 use Rattle.container_layout.proofs.entry_at.Goals as goal
 
-pub returns-in_default : goal.returns-in_default
-returns-in_default c = no_original _ _ _ c.string_at-original.ensures c.in_default.is
+pub returns-in_err-original : goal.returns-in_err-original
+returns-in_err-original c = c.from_residual.ensures ∙ no_original _ _ _ c.string_at.ensures c.in_err-original.was
 
 pub overflow_add-end : goal.overflow_add-end
-overflow_add-end c = omega (arith, string_told _ _ _ _ (sym c.string_at-original.ensures ∙ c.in-At.is))
+overflow_add-end c = omega (arith, string_told _ _ _ _ (sym c.string_at.ensures ∙ c.in_ok-original.was))
 
 pub overflow_add-end-2 : goal.overflow_add-end-2
-overflow_add-end-2 c = omega (arith, string_told _ _ _ _ (sym c.string_at-original.ensures ∙ c.in-At.is))
+overflow_add-end-2 c = omega (arith, string_told _ _ _ _ (sym c.string_at.ensures ∙ c.in_ok-original.was))
 
 pub slice_bounds-split-end : goal.slice_bounds-split-end
-slice_bounds-split-end c = string_told _ _ _ _ (sym c.string_at-original.ensures ∙ c.in-At.is)
+slice_bounds-split-end c = string_told _ _ _ _ (sym c.string_at.ensures ∙ c.in_ok-original.was)
 
-pub returns-then-len-parts : goal.returns-then-len-parts
-returns-then-len-parts c = no_id _ _ _ c.string_at-original.ensures c.in-At.is c.split-parts.ensures c.if-len-parts.true
+pub returns-then-original-parts : goal.returns-then-original-parts
+returns-then-original-parts c = no_id _ _ _ c.string_at.ensures c.in_ok-original.was c.split-parts.ensures c.if-original-parts.true
 
-pub returns-in_default-translation : goal.returns-in_default-translation
-returns-in_default-translation c = no_translation _ _ _ c.string_at-original.ensures c.in-At.is c.split-parts.ensures c.if-len-parts.false c.string_at-translation.ensures c.in_default-translation.is
+pub returns-in_err-translation : goal.returns-in_err-translation
+returns-in_err-translation c =
+    c.from_residual-in_err-translation.ensures
+    ∙ no_translation _ _ _ c.string_at.ensures c.in_ok-original.was c.split-parts.ensures c.if-original-parts.false c.string_at-2.ensures c.in_err-translation.was
 
 pub returns : goal.returns
-returns c = is_entry _ _ _ c.string_at-original.ensures c.in-At.is c.split-parts.ensures c.if-len-parts.false c.string_at-translation.ensures c.in-At-translation.is
+returns c =
+    is_entry _ _ _ c.string_at.ensures c.in_ok-original.was c.split-parts.ensures c.if-original-parts.false c.string_at-2.ensures c.in_ok-translation.was

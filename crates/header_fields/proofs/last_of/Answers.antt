@@ -9,12 +9,6 @@ use Rattle.header_fields.proofs.last_of.Goals as goal
 pub loop-names-init : goal.loop-names-init
 loop-names-init c = (omega arith, met_none _ _ _)
 
-pub slice_bounds-named_value-count : goal.slice_bounds-named_value-count
-slice_bounds-named_value-count c = omega (arith, c.find_byte_from-end.ensures)
-
-pub slice_bounds-named_value-start : goal.slice_bounds-named_value-start
-slice_bounds-named_value-start c = omega (arith, c.find_byte_from-end.ensures)
-
 pub slice_bounds-named_value-end : goal.slice_bounds-named_value-end
 slice_bounds-named_value-end c = rest_bound c.args.c _ _ _ c.find_byte_from-end.ensures c.loop-names.invariant.0
 
@@ -22,10 +16,7 @@ pub moved-requires : goal.moved-requires
 moved-requires c = omega (arith, piece_fits (named (chars_of c.args.names) white_space c.args.x c.args.name.now) (named_end (chars_of c.args.names) white_space c.args.x c.args.name.now) c.args.s.now c.loop-names.at _ c.named_value.ensures (omega (arith, c.find_byte_from-end.ensures)) (rest_bound c.args.c c.args.s.now c.loop-names.at _ c.find_byte_from-end.ensures c.loop-names.invariant.0))
 
 pub returns-then-s-end : goal.returns-then-s-end
-returns-then-s-end c = found_so c.loop-names.at c.loop-names.found c.named_value.ensures c.moved.ensures c.or_else-found.ensures ∙ met_last _ _ _ _ _ _ c.find_byte_from-end.ensures c.loop-names.invariant.0 c.if-s-end.true c.loop-names.invariant.1
-
-pub loop-names-smaller : goal.loop-names-smaller
-loop-names-smaller c = omega (arith, c.find_byte_from-end.ensures)
+returns-then-s-end c = found_so c.loop-names.at c.loop-names.found c.named_value.ensures c.moved.ensures c.or-found.ensures ∙ met_last _ _ _ _ _ _ c.find_byte_from-end.ensures c.loop-names.invariant.0 c.if-s-end.true c.loop-names.invariant.1
 
 pub loop-names-preserved : goal.loop-names-preserved
-loop-names-preserved c = (omega arith, rw (found_so c.loop-names.at c.loop-names.found c.named_value.ensures c.moved.ensures c.or_else-found.ensures) (met_more _ _ _ _ _ _ c.find_byte_from-end.ensures c.loop-names.invariant.0 c.if-s-end.false c.loop-names.invariant.1))
+loop-names-preserved c = (omega arith, rw (found_so c.loop-names.at c.loop-names.found c.named_value.ensures c.moved.ensures c.or-found.ensures) (met_more _ _ _ _ _ _ c.find_byte_from-end.ensures c.loop-names.invariant.0 c.if-s-end.false c.loop-names.invariant.1))

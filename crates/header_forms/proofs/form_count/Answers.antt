@@ -6,20 +6,11 @@ use Rattle.header_forms.proofs.form_count.Goals as goal
 pub loop-found-init : goal.loop-found-init
 loop-found-init c = (omega arith, met_none _)
 
-pub slice_bounds-count_in-count : goal.slice_bounds-count_in-count
-slice_bounds-count_in-count c = omega (arith, c.find_byte_from-end.ensures)
-
-pub slice_bounds-count_in-start : goal.slice_bounds-count_in-start
-slice_bounds-count_in-start c = omega (arith, c.find_byte_from-end.ensures)
-
 pub slice_bounds-count_in-end : goal.slice_bounds-count_in-end
 slice_bounds-count_in-end c = rest_bound 59 _ _ _ c.find_byte_from-end.ensures c.loop-found.invariant.0
 
 pub returns-then-v-end : goal.returns-then-v-end
-returns-then-v-end c = met_last _ _ _ _ c.find_byte_from-end.ensures c.loop-found.invariant.1 c.count_in.ensures c.or_else-found.ensures c.loop-found.invariant.0 c.if-v-end.true
-
-pub loop-found-smaller : goal.loop-found-smaller
-loop-found-smaller c = omega (arith, c.find_byte_from-end.ensures)
+returns-then-v-end c = met_last _ _ _ _ c.find_byte_from-end.ensures c.loop-found.invariant.1 c.count_in.ensures c.or-found.ensures c.loop-found.invariant.0 c.if-v-end.true
 
 pub loop-found-preserved : goal.loop-found-preserved
-loop-found-preserved c = (omega arith, met_more _ _ _ _ c.find_byte_from-end.ensures c.loop-found.invariant.1 c.count_in.ensures c.or_else-found.ensures c.if-v-end.false)
+loop-found-preserved c = (omega arith, met_more _ _ _ _ c.find_byte_from-end.ensures c.loop-found.invariant.1 c.count_in.ensures c.or-found.ensures c.if-v-end.false)

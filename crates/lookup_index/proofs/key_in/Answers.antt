@@ -5,4 +5,4 @@ use Rattle.lookup_index.proofs.key_in.Goals as goal
 
 pub returns-then-hash : goal.returns-then-hash
 returns-then-hash c = let h = c.hash_plain-hash.ensures in
-    ended_at _ _ _ c.requires (end_plain _ _ _ c.requires c.if-file-end-eq0.true h.plain c.if-hash.true) (omega arith) h.value
+    ended_at _ _ c.requires (end_plain _ _ c.requires c.if-file-end-eq0.true h.plain c.if-hash.true) (omega arith) h.value

@@ -1,15 +1,10 @@
 -- The key is taken apart at the context's length. Assumes nothing.
-use mathlib.Core.Path.{sym}
 use native.Mathlib.Omega.{arith}
-use lib.Seq.{length-take-le}
 use Rattle.lookup_scan.proofs.Keys.{too_short, by_context}
 use Rattle.lookup_scan.proofs.in_context.Goals as goal
 
 pub returns-then-key-n : goal.returns-then-key-n
 returns-then-key-n c = too_short _ _ c.if-key-n.true
-
-pub slice_bounds-equal-end : goal.slice_bounds-equal-end
-slice_bounds-equal-end c = sym (length-take-le _ _ (omega arith))
 
 pub returns : goal.returns
 returns c = by_context _ _ c.if-key-n.false (omega arith) c.equal.ensures

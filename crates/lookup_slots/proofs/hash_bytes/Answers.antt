@@ -1,11 +1,8 @@
-use Rattle.lookup_slots.proofs.Hashed.{hashed_first, hashed_more, hashed_end}
+use Rattle.lookup_slots.proofs.Hashed.{hashed_more, hashed_end}
 use Rattle.lookup_slots.proofs.hash_bytes.Goals as goal
 
-pub loop-i-init : goal.loop-i-init
-loop-i-init c = hashed_first _ _ c.requires
-
-pub loop-i-preserved : goal.loop-i-preserved
-loop-i-preserved c = hashed_more _ _ c.loop-i.invariant c.loop-i-test.true c.from_byte.ensures.0
+pub loop-b-preserved : goal.loop-b-preserved
+loop-b-preserved c = hashed_more _ _ c.loop-b.invariant c.loop-b-test.true c.from.ensures
 
 pub returns : goal.returns
-returns c = hashed_end _ _ c.loop-i.invariant c.loop-i-test.false
+returns c = hashed_end _ _ c.loop-b.invariant c.loop-b-test.false

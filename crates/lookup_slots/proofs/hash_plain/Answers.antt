@@ -1,13 +1,10 @@
 use mathlib.Core.Path.{refl}
 use Rattle.lookup_slots.proofs.Lowest.{high}
-use Rattle.lookup_slots.proofs.Turn.{first_turn, next_turn, turn_fits, turned_hash, turned_plain}
+use Rattle.lookup_slots.proofs.Turn.{first_turn, next_turn, turned_hash, turned_plain}
 use Rattle.lookup_slots.proofs.hash_plain.Goals as goal
 
 pub loop-i-init : goal.loop-i-init
 loop-i-init c = first_turn c.requires c.if-n-lt8.false refl c.power-factor.ensures refl c.word-x.ensures high c.least_at-least.ensures
-
-pub overflow_mul-h : goal.overflow_mul-h
-overflow_mul-h c = record { fits = turn_fits c.loop-i.invariant }
 
 pub returns-then-n-i : goal.returns-then-n-i
 returns-then-n-i c = let t = c.loop-i.invariant in

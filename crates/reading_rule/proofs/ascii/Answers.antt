@@ -1,13 +1,11 @@
-use mathlib.Core.Path.{refl}
-use native.Mathlib.Omega.{arith}
-use Rattle.reading_rule.proofs.Steps.{ascii_more, ascii_end}
+-- `all` tests the bytes as the definition does.
+use Rattle.std.proofs.Common.{rules, tests}
+use Rattle.std.proofs.lemmas.Iterator.{YieldsList-from_slice}
+use Rattle.std.proofs.lemmas.Iterator.Search.{all_from_yields_List}
+use Rattle.reading_rule.specs.Plurals.{is_ascii}
+use Rattle.reading_rule.proofs.Steps.{ascii_all}
 use Rattle.reading_rule.proofs.ascii.Goals as goal
 
-pub loop-i-init : goal.loop-i-init
-loop-i-init c = (omega arith, refl)
-
-pub loop-i-preserved : goal.loop-i-preserved
-loop-i-preserved c = (omega arith, ascii_more _ _ c.loop-i.invariant.1 c.loop-i-test.true (omega arith))
-
 pub returns : goal.returns
-returns c = ascii_end _ _ c.loop-i.invariant.1 c.loop-i-test.false
+returns c =
+    ascii_all _ (all_from_yields_List is_ascii _ _ _ c.all.ensures.ran (YieldsList-from_slice c.args.s.now cc) (λ x b q k. search (rules, tests)))

@@ -1,13 +1,10 @@
 -- `index_of`: what is sought in the whole text is sought in the rest of it, with the counters as they are (Scanned). The counters
--- stay below the bytes passed. The measure is the rest's length.
-use Prim.Native.Nat.{◌≤◌, ◌-◌}
+-- stay below the bytes passed.
+use Prim.Native.Nat.{◌≤◌}
 use mathlib.Core.Path.{◌≡◌}
-use lib.ListN.{length, drop}
+use lib.ListN.{drop}
 use Rattle.reading_scan.specs.Scan.{index_of, index_from}
 use Rattle.reading_scan.proofs.index_of.Given as goal
 
 abbrev pub invariant-loop-i : goal.invariant-loop-i
-invariant-loop-i l = (l.i ≤ length l.s) × (l.n ≤ l.i) × (l.opened ≤ l.i) × (l.closed ≤ l.i) × (index_of l.pat l.s ≡ index_from l.pat (drop l.i l.s) l.i l.n l.opened l.closed)
-
-abbrev pub decreases-loop-i : goal.decreases-loop-i
-decreases-loop-i l = length l.s - l.i
+invariant-loop-i l = (l.n ≤ l.i) × (l.opened ≤ l.i) × (l.closed ≤ l.i) × (index_of l.pat l.s ≡ index_from l.pat (drop l.i l.s) l.i l.n l.opened l.closed)

@@ -11,16 +11,16 @@ pub parse_n-requires : goal.parse_n-requires
 parse_n-requires c = let at-trim = c.trim in
     omega (arith, c.requires, trimmed_le c.args.s.now _ at-trim.ensures.result_value)
 
-pub returns-in_default : goal.returns-in_default
-returns-in_default c = let at-trim = c.trim in
-    let at-integer-of = c.integer_of-number in
-    through read_n c.args.s.now _ at-trim.ensures.result_value (int_is c.args.s.now _ (sym c.in_default.is ∙ at-integer-of.ensures)) c.parse_n.ensures
+pub returns-in_default-clause-read : goal.returns-in_default-clause-read
+returns-in_default-clause-read c = let at-trim = c.trim in
+    let at-integer-of = c.integer_of in
+    through read_n c.args.s.now _ at-trim.ensures.result_value (int_is c.args.s.now _ (sym c.in_default.is ∙ at-integer-of.ensures)) c.parse_n.ensures.read
 
 pub put-requires : goal.put-requires
-put-requires c = let at-integer-of = c.integer_of-number in
-    omega (arith, c.requires, integer_some c.args.s.now _ (sym at-integer-of.ensures ∙ c.in-Whole.is))
+put-requires c = let at-integer-of = c.integer_of in
+    omega (arith, c.requires, integer_some c.args.s.now _ (sym at-integer-of.ensures ∙ c.in-Some.is))
 
-pub returns : goal.returns
-returns c = let at-integer-of = c.integer_of-number in
-    wider (int_is c.args.s.now _ (sym c.in-Whole.is ∙ at-integer-of.ensures)) (omega arith)
-    (gives_int _ (integer_some c.args.s.now _ (sym at-integer-of.ensures ∙ c.in-Whole.is)) c.put.ensures)
+pub returns-clause-read : goal.returns-clause-read
+returns-clause-read c = let at-integer-of = c.integer_of in
+    wider (int_is c.args.s.now _ (sym c.in-Some.is ∙ at-integer-of.ensures)) (omega arith)
+    (gives_int _ (integer_some c.args.s.now _ (sym at-integer-of.ensures ∙ c.in-Some.is)) c.put.ensures.put)

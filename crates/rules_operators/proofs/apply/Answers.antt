@@ -1,6 +1,6 @@
 -- `rules_operators::apply` meets its contract: each return is the definition at the operator that the tests before it leave.
+use Rattle.std.specs.Prelude.{Some}
 use Rattle.std.proofs.Common.{sym, refl, ap, ◌∙◌, arith, eq-eqb, ne_eqb}
-use Rattle.rules.specs.declared.Value.TheVariants.{Is}
 use Rattle.rules.specs.Value.{binary, truth_v}
 use Rattle.rules.specs.Operator.{op_of, op_at}
 use Rattle.rules.proofs.Operators.{op_at_lem}
@@ -12,7 +12,7 @@ pub returns-then-op-lt-AND : goal.returns-then-op-lt-AND
 unfolding binary
 returns-then-op-lt-AND c = applied_number λ op e.
     let k = low_cmp _ op e c.if-op-lt-AND.true in
-    rw k.is (ap Is (sym (c.truth.ensures ∙ rw (c.compares.ensures.is k.which (rw k.is at e)))))
+    rw k.is (ap Some (sym (c.truth.ensures ∙ rw (c.compares.ensures.is k.which (rw k.is at e)))))
 
 pub returns-then-x-eq0 : goal.returns-then-x-eq0
 unfolding binary op_of op_at
@@ -20,11 +20,11 @@ returns-then-x-eq0 c = applied_number λ op e. rw (op_at_lem _ 6 e c.if-op-eq-AN
 
 pub returns-then-op-eq-AND : goal.returns-then-op-eq-AND
 unfolding binary op_of op_at truth_v
-returns-then-op-eq-AND c = applied_number λ op e. rw (op_at_lem _ 6 e c.if-op-eq-AND.true refl, ne_eqb _ _ c.if-x-eq0.false) (ap Is (sym c.truth-then-op-eq-AND.ensures))
+returns-then-op-eq-AND c = applied_number λ op e. rw (op_at_lem _ 6 e c.if-op-eq-AND.true refl, ne_eqb _ _ c.if-x-eq0.false) (ap Some (sym c.truth-then-op-eq-AND.ensures))
 
 pub returns-then-x-eq0-2 : goal.returns-then-x-eq0-2
 unfolding binary op_of op_at truth_v
-returns-then-x-eq0-2 c = applied_number λ op e. rw (op_at_lem _ 7 e c.if-op-eq-OR.true refl, eq-eqb _ _ c.if-x-eq0-2.true) (ap Is (sym c.truth-then-x-eq0-2.ensures))
+returns-then-x-eq0-2 c = applied_number λ op e. rw (op_at_lem _ 7 e c.if-op-eq-OR.true refl, eq-eqb _ _ c.if-x-eq0-2.true) (ap Some (sym c.truth-then-x-eq0-2.ensures))
 
 pub returns-then-op-eq-OR : goal.returns-then-op-eq-OR
 unfolding binary op_of op_at
@@ -34,7 +34,7 @@ pub returns-then-op-ge-PLUS : goal.returns-then-op-ge-PLUS
 unfolding binary
 returns-then-op-ge-PLUS c = applied_number λ op e.
     let k = high_calc _ op e c.if-op-ge-PLUS.true in
-    rw k.is (ap Is (sym (c.calculates.ensures.is k.which (rw k.is at e))))
+    rw k.is (ap Some (sym (c.calculates.ensures.is k.which (rw k.is at e))))
 
 pub returns-then-y-eq0 : goal.returns-then-y-eq0
 returns-then-y-eq0 c = applied_zero (λ op e. rw c.if-y-eq0.true (by_zero c.args.op op _ e (omega arith) c.if-op-ge-PLUS.false)) refl refl

@@ -11,20 +11,20 @@ returns-then-code-eq-N c = left_count c.requires c.if-code-eq-N.true
 pub returns-then-code : goal.returns-then-code
 returns-then-code c = left_other c.requires c.if-code-eq-N.false c.if-code.true
 
-pub bounds-codes-first : goal.bounds-codes-first
-bounds-codes-first c = inside c.requires (first_in c.requires.sound (omega arith)) c.place-first.ensures
+pub bounds-nodes-first : goal.bounds-nodes-first
+bounds-nodes-first c = inside c.requires (first_in c.requires.sound (omega arith)) c.place-first.ensures
 
-pub returns-then-codes-first-ne-N : goal.returns-then-codes-first-ne-N
-returns-then-codes-first-ne-N c = left_no_count c.requires c.if-code.false c.place-first.ensures c.if-codes-first-ne-N.true
+pub returns-then-nodes-first-ne-N : goal.returns-then-nodes-first-ne-N
+returns-then-nodes-first-ne-N c = left_no_count c.requires c.if-code.false c.place-first.ensures c.if-nodes-first-ne-N.true
 
 pub overflow_sub-at : goal.overflow_sub-at
 overflow_sub-at c = omega (arith, before_in c.requires.sound (omega arith))
 
-pub small_of-right-requires : goal.small_of-right-requires
-small_of-right-requires c = inside c.requires (before_in c.requires.sound (omega arith)) refl
+pub small_of-requires : goal.small_of-requires
+small_of-requires c = inside c.requires (before_in c.requires.sound (omega arith)) refl
 
 pub returns-in_default : goal.returns-in_default
-returns-in_default c = left_rest c.requires c.if-code.false c.place-first.ensures c.if-codes-first-ne-N.false c.small_of-right.ensures c.in_default.is
+returns-in_default c = left_rest c.requires c.if-code.false c.place-first.ensures c.if-nodes-first-ne-N.false c.small_of.ensures c.in_default.is
 
 pub returns : goal.returns
-returns c = left_rest c.requires c.if-code.false c.place-first.ensures c.if-codes-first-ne-N.false c.small_of-right.ensures c.in-Is.is
+returns c = left_rest c.requires c.if-code.false c.place-first.ensures c.if-nodes-first-ne-N.false c.small_of.ensures c.in-Some.is

@@ -2,5 +2,8 @@
 use Rattle.rules_pack.proofs.Laws.{from_blank}
 use Rattle.rules_pack.proofs.pack.Goals as goal
 
-pub returns : goal.returns
-returns c = let h = from_blank c.nodes.ensures in record { nodes = h.0; count = h.1 }
+pub returns-clause-nodes : goal.returns-clause-nodes
+returns-clause-nodes c = (from_blank c.pack_tree.ensures.packed).0
+
+pub returns-clause-count : goal.returns-clause-count
+returns-clause-count c = (from_blank c.pack_tree.ensures.packed).1

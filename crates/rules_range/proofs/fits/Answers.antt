@@ -1,21 +1,22 @@
--- `rating::fits` meets its contract: whether a rule fits is settled by its range.
-use mathlib.Core.Path.{refl, ap}
-use Rattle.rules.specs.Pool.{pool}
-use borrow.Author.Tests.{lt-ltb, le-ltb}
+-- `rules_range::fits` meets its contract: whether a rule fits is settled by its range.
+use mathlib.Core.Path.{◌≡◌, refl, ap, ◌∙◌}
+use mathlib.Core.Bool.{Bool, true, false}
+use Rattle.std.specs.Prelude.{Result, Ok}
+use Rattle.std.proofs.lemmas.Result.{err_from_is_err_and}
 use Rattle.rules.specs.Answer.{fitting}
+use Rattle.rules.specs.declared.NoTree.{NoTree}
 use Rattle.rules.proofs.Answers.{fits_as}
 use Rattle.rules_range.proofs.fits.Goals as goal
 
-pub returns-then-hi-k : goal.returns-then-hi-k
-returns-then-hi-k c = fits_as (pool c.args.codes.now c.args.places.now c.args.values.now) c.args.count c.args.root c.args.k c.rating_of.ensures
-    c.in-Range.is (ap fitting (lt-ltb _ _ c.if-hi-k.true))
+fitting_is : (b : Bool) → ◌≡◌ {A = Result Bool NoTree} (fitting b) (Ok b)
+fitting_is true = refl
+fitting_is false = refl
 
-pub returns-else-hi-k : goal.returns-else-hi-k
-returns-else-hi-k c = fits_as (pool c.args.codes.now c.args.places.now c.args.values.now) c.args.count c.args.root c.args.k c.rating_of.ensures
-    c.in-Range.is (ap fitting (le-ltb _ _ c.if-hi-k.false))
+pub returns-in_err-high : goal.returns-in_err-high
+returns-in_err-high c = let p = err_from_is_err_and c.from_residual.result c.from_residual.ensures.1 in rw p.1 (fits_as _ _ _ _ c.rating_of.ensures c.in_err-high.was refl)
 
-pub returns-in-Unrated : goal.returns-in-Unrated
-returns-in-Unrated c = fits_as (pool c.args.codes.now c.args.places.now c.args.values.now) c.args.count c.args.root c.args.k c.rating_of.ensures c.in-Unrated.is refl
+pub returns-in-Some : goal.returns-in-Some
+returns-in-Some c = fits_as _ _ _ _ c.rating_of.ensures (c.in_ok-high.was ∙ ap Ok c.in-Some.is) (fitting_is _)
 
-pub returns-in-NoTree : goal.returns-in-NoTree
-returns-in-NoTree c = fits_as (pool c.args.codes.now c.args.places.now c.args.values.now) c.args.count c.args.root c.args.k c.rating_of.ensures c.in-NoTree.is refl
+pub returns-in-None : goal.returns-in-None
+returns-in-None c = fits_as _ _ _ _ c.rating_of.ensures (c.in_ok-high.was ∙ ap Ok c.in-None.is) refl

@@ -6,9 +6,6 @@ use Rattle.rules_tree.proofs.base.Goals as goal
 pub loop-p-init : goal.loop-p-init
 loop-p-init c = no_run _ _ _
 
-pub bounds-codes-p : goal.bounds-codes-p
-bounds-codes-p c = omega (arith, c.loop-p.invariant.below, c.requires.0)
-
 pub overflow_sub-p : goal.overflow_sub-p
 overflow_sub-p c = some_below c.loop-p.invariant c.requires.1 (sym c.is_above.ensures ∙ c.loop-p-test.true)
 

@@ -1,15 +1,8 @@
 -- `rules_tree::passes` meets its contract. The loop's invariant: every place before p passed, and the marks are those of their operands,
 -- of which none stands twice.
-use Prim.Native.Nat.{◌≤◌, ◌-◌}
-use mathlib.Core.Path.{◌≡◌}
-use mathlib.Core.List.{[]}
-use lib.ListN.{length}
-use Rattle.rules.specs.Pool.{pool}
+use Rattle.rules.specs.Pool.{pool_in}
 use Rattle.rules_tree.proofs.Marks.{Passed}
 use Rattle.rules_tree.proofs.passes.Given as goal
 
 abbrev pub invariant-loop-p : goal.invariant-loop-p
-invariant-loop-p l = (l.p ≤ l.count) × (length l.marks ≡ length l.initial.marks) × Passed (pool l.codes l.places []) l.p l.marks
-
-abbrev pub decreases-loop-p : goal.decreases-loop-p
-decreases-loop-p l = l.count - l.p
+invariant-loop-p l = Passed (pool_in l.nodes) l.p l.marks

@@ -1,17 +1,13 @@
 use mathlib.Core.Path.{refl}
 use native.Mathlib.Omega.{arith}
-use Rattle.rules.specs.Pool.{pool}
 use Rattle.rules.proofs.Operators.{named}
 use Rattle.rules.proofs.Trees.{before_in, first_in, second_in}
 use Rattle.rules_tree.proofs.Runs.{inside, falls_to, leaf_first}
-use Rattle.rules_value.proofs.Values.{lower, topped, moved, at_no, at_chosen, at_yes, at_settled, at_both}
+use Rattle.rules_value.proofs.Values.{lower, topped, moved, at_leaf, at_no, at_chosen, at_yes, at_settled, at_both}
 use Rattle.rules_value.proofs.+eval_operand.Goals as goal
 
-pub eval-leaf-requires : goal.eval-leaf-requires
-eval-leaf-requires t c = record { sound = c.requires; leaf = c.if-code-lt-NOT.true }
-
 pub eval-returns-then-code-lt-NOT : goal.eval-returns-then-code-lt-NOT
-eval-returns-then-code-lt-NOT t c = c.leaf.ensures
+eval-returns-then-code-lt-NOT t c = at_leaf _ _ _ c.if-code-lt-NOT.true c.small.ensures c.leaf.ensures
 
 pub eval-overflow_sub-at : goal.eval-overflow_sub-at
 eval-overflow_sub-at t c = omega (arith, before_in c.requires c.if-code-lt-NOT.false)
@@ -41,13 +37,13 @@ pub eval-eval-requires : goal.eval-eval-requires
 eval-eval-requires t c = lower (falls_to c.requires c.decreases (before_in c.requires c.if-code-lt-NOT.false) refl)
 
 pub eval-returns-then-x-eq0 : goal.eval-returns-then-x-eq0
-eval-returns-then-x-eq0 t c = let P = pool c.args.codes.now c.args.places.now c.args.values.now in at_no P c.args.at c.args.n (before_in c.requires c.if-code-lt-NOT.false) (first_in c.requires c.if-code-lt-OP.false) (moved P _ c.args.n c.operand-x-2.ensures c.place.ensures) c.if-code-ge-CHOICE.true (second_in c.requires) c.if-x-eq0.true c.eval.ensures
+eval-returns-then-x-eq0 t c = at_no _ _ _ (before_in c.requires c.if-code-lt-NOT.false) (first_in c.requires c.if-code-lt-OP.false) (moved _ _ _ c.operand-x-2.ensures c.place.ensures) c.if-code-ge-CHOICE.true (second_in c.requires) c.if-x-eq0.true c.eval.ensures
 
-pub eval-bounds-values-at : goal.eval-bounds-values-at
-eval-bounds-values-at t c = inside c.requires
+pub eval-bounds-nodes-at-then-code-lt-TERNARY : goal.eval-bounds-nodes-at-then-code-lt-TERNARY
+eval-bounds-nodes-at-then-code-lt-TERNARY t c = inside c.requires
 
 pub eval-returns-then-code-lt-TERNARY : goal.eval-returns-then-code-lt-TERNARY
-eval-returns-then-code-lt-TERNARY t c = let P = pool c.args.codes.now c.args.places.now c.args.values.now in at_chosen P c.args.at c.args.n (before_in c.requires c.if-code-lt-NOT.false) (first_in c.requires c.if-code-lt-OP.false) (moved P _ c.args.n c.operand-x-2.ensures c.place.ensures) c.if-code-ge-CHOICE.true c.if-code-lt-TERNARY.true c.if-x-eq0.false refl
+eval-returns-then-code-lt-TERNARY t c = at_chosen _ _ _ (before_in c.requires c.if-code-lt-NOT.false) (first_in c.requires c.if-code-lt-OP.false) (moved _ _ _ c.operand-x-2.ensures c.place.ensures) c.if-code-ge-CHOICE.true c.if-code-lt-TERNARY.true c.if-x-eq0.false refl
 
 pub eval-place-requires-then-code-ge-CHOICE : goal.eval-place-requires-then-code-ge-CHOICE
 eval-place-requires-then-code-ge-CHOICE t c = (inside c.requires, omega arith)
@@ -56,13 +52,13 @@ pub eval-eval-requires-then-code-ge-CHOICE : goal.eval-eval-requires-then-code-g
 eval-eval-requires-then-code-ge-CHOICE t c = lower (falls_to c.requires c.decreases (second_in c.requires c.if-code-lt-TERNARY.false) c.place-then-code-ge-CHOICE.ensures)
 
 pub eval-returns-then-code-ge-CHOICE : goal.eval-returns-then-code-ge-CHOICE
-eval-returns-then-code-ge-CHOICE t c = let P = pool c.args.codes.now c.args.places.now c.args.values.now in at_yes P c.args.at c.args.n (before_in c.requires c.if-code-lt-NOT.false) (first_in c.requires c.if-code-lt-OP.false) (moved P _ c.args.n c.operand-x-2.ensures c.place.ensures) c.if-code-lt-TERNARY.false (second_in c.requires c.if-code-lt-TERNARY.false) c.if-x-eq0.false (moved P _ c.args.n c.eval-then-code-ge-CHOICE.ensures c.place-then-code-ge-CHOICE.ensures)
+eval-returns-then-code-ge-CHOICE t c = at_yes _ _ _ (before_in c.requires c.if-code-lt-NOT.false) (first_in c.requires c.if-code-lt-OP.false) (moved _ _ _ c.operand-x-2.ensures c.place.ensures) c.if-code-lt-TERNARY.false (second_in c.requires c.if-code-lt-TERNARY.false) c.if-x-eq0.false (moved _ _ _ c.eval-then-code-ge-CHOICE.ensures c.place-then-code-ge-CHOICE.ensures)
 
 pub eval-apply-requires : goal.eval-apply-requires
 eval-apply-requires t c = named _ (omega arith)
 
 pub eval-returns-then-settles : goal.eval-returns-then-settles
-eval-returns-then-settles t c = let P = pool c.args.codes.now c.args.places.now c.args.values.now in at_settled P c.args.at c.args.n (before_in c.requires c.if-code-lt-NOT.false) (first_in c.requires c.if-code-lt-OP.false) (moved P _ c.args.n c.operand-x-2.ensures c.place.ensures) c.if-code-lt-OP.false c.if-code-ge-CHOICE.false c.settles.ensures c.if-settles.true c.apply.ensures
+eval-returns-then-settles t c = at_settled _ _ _ (before_in c.requires c.if-code-lt-NOT.false) (first_in c.requires c.if-code-lt-OP.false) (moved _ _ _ c.operand-x-2.ensures c.place.ensures) c.if-code-lt-OP.false c.if-code-ge-CHOICE.false c.settles.ensures c.if-settles.true c.apply.ensures
 
 pub eval-overflow_sub-at-2 : goal.eval-overflow_sub-at-2
 eval-overflow_sub-at-2 t c = omega (arith, before_in c.requires c.if-code-lt-NOT.false)
@@ -74,19 +70,10 @@ pub eval-apply-requires-2 : goal.eval-apply-requires-2
 eval-apply-requires-2 t c = named _ (omega arith)
 
 pub eval-returns : goal.eval-returns
-eval-returns t c = let P = pool c.args.codes.now c.args.places.now c.args.values.now in at_both P c.args.at c.args.n (before_in c.requires c.if-code-lt-NOT.false) (first_in c.requires c.if-code-lt-OP.false) (moved P _ c.args.n c.operand-x-2.ensures c.place.ensures) c.if-code-lt-OP.false c.if-code-ge-CHOICE.false c.settles.ensures c.if-settles.false c.eval-y.ensures c.apply-2.ensures
+eval-returns t c = at_both _ _ _ (before_in c.requires c.if-code-lt-NOT.false) (first_in c.requires c.if-code-lt-OP.false) (moved _ _ _ c.operand-x-2.ensures c.place.ensures) c.if-code-lt-OP.false c.if-code-ge-CHOICE.false c.settles.ensures c.if-settles.false c.eval-y.ensures c.apply-2.ensures
 
-pub operand-bounds-codes-at : goal.operand-bounds-codes-at
-operand-bounds-codes-at t c = inside c.requires
+pub operand-bounds-nodes-at : goal.operand-bounds-nodes-at
+operand-bounds-nodes-at t c = inside c.requires
 
-pub operand-leaf-requires : goal.operand-leaf-requires
-operand-leaf-requires t c = record { sound = c.requires; leaf = c.if-codes-at-lt-NOT.true }
-
-pub operand-returns-then-codes-at-lt-NOT : goal.operand-returns-then-codes-at-lt-NOT
-operand-returns-then-codes-at-lt-NOT t c = c.leaf.ensures
-
-pub operand-eval-requires : goal.operand-eval-requires
-operand-eval-requires t c = (omega (arith, c.decreases), c.requires)
-
-pub operand-returns : goal.operand-returns
-operand-returns t c = c.eval.ensures
+pub operand-returns-then-code-lt-NOT : goal.operand-returns-then-code-lt-NOT
+operand-returns-then-code-lt-NOT t c = at_leaf _ _ _ c.if-code-lt-NOT.true c.small.ensures c.leaf.ensures

@@ -1,18 +1,15 @@
 -- The value decides; where it is a zero divisor the nodes are a tree, and the node is sought. Assumes nothing.
 use mathlib.Core.Path.{ap, ◌∙◌}
-use Rattle.rules.specs.Pool.{pool}
-use Rattle.rules_zero.specs.declared.Traced.TheVariants.{ZeroDivisor}
-use Rattle.rules_zero.proofs.Steps.{traces, zero_sound}
+use Rattle.std.specs.Prelude.{ℕ, Err}
+use Rattle.rules_zero.specs.declared.Fault.TheVariants.{ZeroDivisor}
+use Rattle.rules_zero.proofs.Steps.{traces}
 use Rattle.rules_zero.proofs.trace.Goals as goal
 
-pub zero_at-requires : goal.zero_at-requires
-zero_at-requires c = zero_sound (pool c.args.codes.now c.args.places.now c.args.values.now) c.args.count c.args.root c.args.n c.resolve-resolved.ensures c.in-ZeroModulus.is
+pub returns-in-Ok : goal.returns-in-Ok
+returns-in-Ok c = traces _ _ _ _ c.resolve.ensures c.in-Ok.is
 
-pub returns-in-Form : goal.returns-in-Form
-returns-in-Form c = traces (pool c.args.codes.now c.args.places.now c.args.values.now) c.args.count c.args.root c.args.n c.resolve-resolved.ensures c.in-Form.is
+pub returns-in-Err-ZeroModulus : goal.returns-in-Err-ZeroModulus
+returns-in-Err-ZeroModulus c = ap (λ (q : ℕ). Err (ZeroDivisor q)) c.zero_at.ensures ∙ traces _ _ _ _ c.resolve.ensures (c.in-Err-ZeroModulus.is ∙ ap Err c.in-Err-ZeroModulus.field-0-is)
 
-pub returns-in-ZeroModulus : goal.returns-in-ZeroModulus
-returns-in-ZeroModulus c = ap ZeroDivisor c.zero_at.ensures ∙ traces (pool c.args.codes.now c.args.places.now c.args.values.now) c.args.count c.args.root c.args.n c.resolve-resolved.ensures c.in-ZeroModulus.is
-
-pub returns-in-NoTree : goal.returns-in-NoTree
-returns-in-NoTree c = traces (pool c.args.codes.now c.args.places.now c.args.values.now) c.args.count c.args.root c.args.n c.resolve-resolved.ensures c.in-NoTree.is
+pub returns-in-Err-NoTree : goal.returns-in-Err-NoTree
+returns-in-Err-NoTree c = traces _ _ _ _ c.resolve.ensures (c.in-Err-NoTree.is ∙ ap Err c.in-Err-NoTree.field-0-is)

@@ -1,5 +1,4 @@
 -- Each arm is the definition's, and the second turns the flag round. Assumes nothing.
-use borrow.Author.Rules.{rules}
 use Rattle.text.proofs.Flags.{flags_not}
 use Rattle.text.proofs.ends.Goals as goal
 

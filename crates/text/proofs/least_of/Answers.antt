@@ -1,9 +1,5 @@
-use Prim.Native.Nat.{◌-◌, ◌≤◌}
-use mathlib.Core.Path.{◌≡◌}
 use native.Mathlib.Omega.{arith}
-use lib.ListN.{length}
 use borrow.Author.Rules.{rules}
-use Rattle.text.specs.Private.{Least}
 use Rattle.text.proofs.Lowest.{least_none, least_at, least_join}
 use Rattle.text.proofs.least_of.Goals as goal
 

@@ -1,12 +1,8 @@
--- The loop's invariant: where no flag is set, the first k bytes of the block are right after the two before. The measure is what is left of
--- the block. Assumes nothing.
-use Prim.Native.Nat.{◌+◌, ◌-◌, ◌≤◌}
+-- The loop's invariant: where no flag is set, the first k bytes of the block are right after the two before. Assumes nothing.
+use Prim.Native.Nat.{◌+◌}
 use mathlib.Core.Path.{◌≡◌}
 use Rattle.text_utf8.specs.Private.{Plain}
 use Rattle.text_utf8.proofs.block.Given as goal
 
 abbrev pub invariant-loop-k : goal.invariant-loop-k
-invariant-loop-k l = (l.z ≡ 0 → Plain l.s l.i (l.i + l.k)) × (l.k ≤ 16)
-
-abbrev pub decreases-loop-k : goal.decreases-loop-k
-decreases-loop-k l = 16 - l.k
+invariant-loop-k l = l.z ≡ 0 → Plain l.s l.i (l.i + l.k)

@@ -1,11 +1,6 @@
--- The loop's invariant: the machine has read the text up to i. The measure is what is left. Assumes nothing.
-use Prim.Native.Nat.{◌-◌, ◌≤◌}
-use lib.ListN.{length}
+-- The loop's invariant: the machine has read the bytes before the loop's. Assumes nothing.
 use Rattle.text_utf8.proofs.Machine.{Reaches}
 use Rattle.text_utf8.proofs.by_table.Given as goal
 
-abbrev pub invariant-loop-i : goal.invariant-loop-i
-invariant-loop-i l = Reaches l.s l.i l.state × (l.i ≤ length l.s)
-
-abbrev pub decreases-loop-i : goal.decreases-loop-i
-decreases-loop-i l = length l.s - l.i
+abbrev pub invariant-loop-b : goal.invariant-loop-b
+invariant-loop-b l = Reaches l.s l.b-index l.state

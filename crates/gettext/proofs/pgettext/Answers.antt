@@ -1,7 +1,0 @@
--- The text by the reason. Assumes nothing.
-use mathlib.Core.Path.{◌∙◌, ap}
-use Rattle.lookup.specs.Text.{singular_text}
-use Rattle.gettext.proofs.pgettext.Goals as goal
-
-pub returns : goal.returns
-returns c = rw (c.singular_text.ensures ∙ ap singular_text c.answer_pgettext-reason.ensures) at c.text_of.ensures
