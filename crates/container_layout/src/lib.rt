@@ -79,7 +79,7 @@ pub fn string_at(file: &[u8], big: bool, table: u32, i: usize) -> Option<Stretch
 }
 
 // An original, with the byte after it: where its context ends (0 without one), where its id starts, and the NUL that ends the id, or
-// without one the length.
+// without one the length. The 0 is no None: the definition `context_end` has it, and the bytes before it are the empty context.
 #[derive(Clone, Copy)]
 pub struct Parts {
     pub context: usize,

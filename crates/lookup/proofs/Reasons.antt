@@ -34,6 +34,10 @@ module _ (s : List ℕ) (t : Tables) (v : Result ℕ NoForm) (h : Option Hit) wh
   pub by_form : {u : Result ℕ NoForm} {g : Option Hit} {r : Reason} → length s ≡ t.length → u ≡ v → g ≡ h → r ≡ by_rule s u g → r ≡ plural s t v h
   by_form {u} e f m n = by_rule_lem e f refl (n ∙ ap (by_rule s u) m)
 
+-- without a count the form is 0
+pub by_first : (s : List ℕ) (t : Tables) (h : Option Hit) {g : Option Hit} {r : Reason} → length s ≡ t.length → g ≡ h → r ≡ by_entry s 0 g → r ≡ plural s t (Ok 0) h
+by_first s t h e m k = by_rule_lem s t (Ok 0) h e refl refl (k ∙ ap (by_entry s 0) m)
+
 -- where the rule names no form, no key is sought
 no_form_lem : (s : List ℕ) (v : Result ℕ NoForm) (h : Option Hit) → is_err v ≡ true → by_rule s v None ≡ by_rule s v h
 no_form_lem s (Ok form) h k = absurd (never k)

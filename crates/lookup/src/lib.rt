@@ -87,7 +87,7 @@ fn by_slots(
 }
 
 // A lookup without a count: `gettext`, and with a context `pgettext`.
-#[tactic(auto, using(crate::proofs::Reasons::stale))]
+#[tactic(auto, using(crate::proofs::Reasons::stale, crate::proofs::Reasons::by_first))]
 pub fn find(file: &[u8], t: Tables, key: Key<'_>) -> Reason
     ensures { result ≡ singular file.now t (last_with file.now t (bytes_of key.entry)) }
 {
@@ -99,7 +99,7 @@ pub fn find(file: &[u8], t: Tables, key: Key<'_>) -> Reason
 }
 
 // A lookup with a count: `ngettext`, and with a context `npgettext`. The rule is resolved before the key is sought.
-#[tactic(auto, using(crate::proofs::Reasons::stale))]
+#[tactic(auto, using(crate::proofs::Reasons::stale, crate::proofs::Reasons::by_no_form, crate::proofs::Reasons::by_form))]
 pub fn nfind(file: &[u8], t: Tables, rule: Rule<'_>, key: Key<'_>, n: u64) -> Reason
     ensures { result ≡ plural file.now t (resolved_of (pool_in rule.entry.nodes) rule.entry.count rule.entry.root n)
         (last_with file.now t (bytes_of key.entry)) }
@@ -116,6 +116,7 @@ pub fn nfind(file: &[u8], t: Tables, rule: Rule<'_>, key: Key<'_>, n: u64) -> Re
 }
 
 // A lookup without a count in lent slots. It is no case of `find`, since only here may the slots be too few, and the scan of `find` needs none.
+#[tactic(auto, using(crate::proofs::Reasons::stale_in, crate::proofs::Reasons::by_slots_lem))]
 pub fn find_indexed(file: &[u8], t: Tables, slots: &[u32], key: Key<'_>) -> Reason
     ensures { result ≡ singular_in file.now t (sought_in file.now t slots.now (bytes_of key.entry)) }
 {
@@ -128,6 +129,7 @@ pub fn find_indexed(file: &[u8], t: Tables, slots: &[u32], key: Key<'_>) -> Reas
 }
 
 // A lookup with a count in lent slots; the key is sought whatever the rule names, since a search in slots is a few steps.
+#[tactic(auto, using(crate::proofs::Reasons::stale_in, crate::proofs::Reasons::by_slots_lem))]
 pub fn nfind_indexed(
     file: &[u8],
     t: Tables,

@@ -17,9 +17,9 @@ use Rattle.container_layout.proofs.Cells.{string_told}
 use Rattle.container_layout.proofs.Entries.{original_part, is_entry}
 use Rattle.lookup_scan.specs.Keys.{is_key}
 use Rattle.lookup_scan.specs.Promise.{hit_if}
-use Rattle.lookup_scan.specs.Private.{Starts, has_key}
+use Rattle.lookup_scan.specs.Private.{ends_after, Starts, has_key}
 use Rattle.std.specs.Prelude.{Option, Some, None}
-use Rattle.lookup_scan.proofs.Entries.{made, Keyed, keyed_told}
+use Rattle.lookup_scan.proofs.Entries.{made, Keyed, keyed_told, may_not_outside, may_by_end}
 use Rattle.lookup_scan.proofs.Ends.{has_key_lem, key_has}
 use Rattle.lookup_scan.proofs.Scan.{hit_false, told_key}
 
@@ -27,6 +27,14 @@ use Rattle.lookup_scan.proofs.Scan.{hit_false, told_key}
 is_false : (b : Bool) → (b ≡ true → ⊥) → b ≡ false
 is_false true h = absurd (h refl)
 is_false false h = refl
+
+-- what the quick tests rule out has not the key, which is n bytes long
+module _ (s : List ℕ) (t : Tables) (key : List ℕ) (i : ℕ) {n : ℕ} (z : n ≡ length key) {y : Option Stretch} (e : y ≡ string t.big s t.originals i) where
+  pub hit_outside : y ≡ None → None ≡ hit_if s t key i
+  hit_outside f = hit_false s t key i ((may_not_outside s t i n e f).no refl key (sym z))
+
+  pub hit_short : {o : Stretch} {r : Bool} → y ≡ Some o → r ≡ ends_after s o.start o.len n → r ≡ false → None ≡ hit_if s t key i
+  hit_short f g h = hit_false s t key i ((may_by_end s t i n e f g).no h key (sym z))
 
 module _ (s : List ℕ) (t : Tables) (key : List ℕ) (i : ℕ) {o : Stretch} {n : ℕ} (z : n ≡ length key) (g : Starts s t i o n) where
   -- the original is that of the entry

@@ -43,7 +43,7 @@ pub fn size_of(size: usize, key: Key<'_>) -> Option<usize>
 }
 
 // Whether a key begins with a context and byte 4.
-#[tactic(auto, using(crate::proofs::Keys::not_four))]
+#[tactic(auto, using(crate::proofs::Keys::too_short, crate::proofs::Keys::not_four, crate::proofs::Keys::by_context))]
 fn in_context(key: &[u8], context: &[u8]) -> bool
     ensures { InContext context.now key.now result }
 {
@@ -59,6 +59,7 @@ fn in_context(key: &[u8], context: &[u8]) -> bool
 
 // Whether a string has n bytes or more, and a NUL after n of them. What it lacks to n bytes and the byte there are looked at together: the length alone is less
 // or more for every second entry, so that a test of it would be mispredicted as often.
+#[tactic(auto, using(crate::proofs::Entries::ends_at_once))]
 fn ends_after(file: &[u8], string: Stretch, n: usize) -> bool
     requires { string.start + string.len < length file.now }
     ensures { result ≡ ends_after file.now string.start string.len n }
@@ -69,6 +70,7 @@ fn ends_after(file: &[u8], string: Stretch, n: usize) -> bool
 }
 
 // Whether entry i may have a key of n bytes: its original is long enough, and a NUL stands after so many. Most entries end here.
+#[tactic(auto, using(crate::proofs::Entries::may_not_outside, crate::proofs::Entries::may_by_end, container_layout::proofs::Cells::string_told))]
 fn may_be(file: &[u8], t: Tables, i: usize, n: usize) -> bool
     ensures { MayBe file.now t i n result }
 {
@@ -79,6 +81,7 @@ fn may_be(file: &[u8], t: Tables, i: usize, n: usize) -> bool
 }
 
 // Whether an original has the key of n bytes whose id stands from a place on, whatever bytes the two have.
+#[tactic(auto, using(crate::proofs::Ends::other_bytes, crate::proofs::Ends::by_end))]
 fn has_any_key(o: &[u8], n: usize, from: usize, id: &[u8]) -> bool
     requires { (from ≤ n) × (n ≤ length o.now) }
     ensures { result ≡ has_from o.now n from id.now }
@@ -92,6 +95,7 @@ fn has_any_key(o: &[u8], n: usize, from: usize, id: &[u8]) -> bool
 
 // Whether an original has the key of n bytes, which has a context. Where neither context nor id has a byte below 5, the byte 4 between them is the
 // only mark, and the id ends at the NUL after it.
+#[tactic(auto, using(crate::proofs::Ends::no_context, crate::proofs::Ends::any_context, crate::proofs::Ends::plain_context))]
 fn has_in_context(o: &[u8], n: usize, context: &[u8], id: &[u8]) -> bool
     requires { Ending o.now n (key_of true context.now id.now) }
     ensures { result ≡ has_key o.now n (key_of true context.now id.now) }
@@ -110,6 +114,7 @@ fn has_in_context(o: &[u8], n: usize, context: &[u8], id: &[u8]) -> bool
 
 // Whether an original has the key of n bytes, where a NUL stands after so many. An id without a byte below 5, which is told in the pass that compares
 // it, has no mark, so that only a byte 4 further on could tell that its own end is not here.
+#[tactic(auto, using(crate::proofs::Keys::without_context, crate::proofs::Ends::other_first, crate::proofs::Ends::any_alone, crate::proofs::Ends::plain_alone))]
 fn has_key(o: &[u8], n: usize, key: Key<'_>) -> bool
     requires { Ending o.now n (bytes_of key) }
     ensures { result ≡ has_key o.now n (bytes_of key.entry) }
@@ -130,6 +135,7 @@ fn has_key(o: &[u8], n: usize, key: Key<'_>) -> bool
 }
 
 // Entry i, where it has the key of n bytes: its original is at a place, and after n bytes has a NUL.
+#[tactic(auto, using(container_layout::proofs::Cells::string_told, crate::proofs::Found::found_none, crate::proofs::Found::found_untranslated))]
 fn found_at(
     file: &[u8],
     t: Tables,
@@ -154,6 +160,7 @@ fn found_at(
 }
 
 // Entry i, where it has the key, which is n bytes long: what other searches ask of an entry. Most end at their length, or at the byte after n.
+#[tactic(auto, using(container_layout::proofs::Cells::string_told, crate::proofs::Found::hit_outside, crate::proofs::Found::hit_short))]
 pub fn hit_at(file: &[u8], t: Tables, i: usize, n: usize, key: Key<'_>) -> Option<Hit>
     requires { n ≡ length (bytes_of key) }
     ensures { result ≡ hit_if file.now t (bytes_of key.entry) i }
@@ -178,6 +185,7 @@ fn scan_from(file: &[u8], t: Tables) -> usize
 }
 
 // The last entry with the key: the entries are passed from the last one down, most of them by the quick test alone.
+#[tactic(auto, using(crate::proofs::Keys::sized_is, crate::proofs::Keys::sized_long, crate::proofs::Scan::too_long, crate::proofs::Scan::passed_end, crate::proofs::Scan::passed_hit, crate::proofs::Scan::passed_miss, crate::proofs::Scan::passed_quick))]
 pub fn last_hit(file: &[u8], t: Tables, key: Key<'_>) -> Option<Hit>
     ensures { result ≡ last_with file.now t (bytes_of key.entry) }
 {

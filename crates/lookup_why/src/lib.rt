@@ -34,6 +34,7 @@ fn count_in(translation: &[u8]) -> usize
 }
 
 // How many segments the translation at a place stores.
+#[tactic(auto, using(crate::proofs::Counted::none_stored, crate::proofs::Counted::all_stored))]
 fn stored_at(file: &[u8], start: usize, len: usize) -> usize
     ensures { result ≡ stored file.now start len }
 {
@@ -47,7 +48,8 @@ fn stored_at(file: &[u8], start: usize, len: usize) -> usize
     count_in(&file[start..end])
 }
 
-// What follows from the entry with the key: the segment that a form names. Its place is counted from the file's first byte.
+// What follows from the entry with the key: the segment that a form names. Its place is counted from the file's first byte. This and `by_rule` are
+// those of `lookup` with more told; one over both kinds of answer would take a trait for two, and be no plainer.
 fn by_entry(file: &[u8], hit: Option<Hit>, form: u64) -> Why
     ensures { result ≡ by_entry file.now form hit }
 {
@@ -72,6 +74,7 @@ fn by_rule(file: &[u8], value: Result<u64, Fault>, hit: Option<Hit>) -> Why
 }
 
 // Why `lookup::nfind` of the same answers as it does.
+#[tactic(auto, using(crate::proofs::Reasons::stale, crate::proofs::Reasons::by_rule_lem))]
 pub fn explain(file: &[u8], t: Tables, rule: Rule<'_>, key: Key<'_>, n: u64) -> Why
     ensures { result ≡ why file.now t (traced_of (pool_in rule.entry.nodes) rule.entry.count rule.entry.root n)
         (last_with file.now t (bytes_of key.entry)) }

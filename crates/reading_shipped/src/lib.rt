@@ -42,7 +42,7 @@ fn parse_int(s: &[u8], lent: &mut Lent<'_>, k: usize) -> Option<usize>
     Some(k + 1)
 }
 
-// The place before one, as a node holds it: 0 has none before it.
+// The place before one, as a node holds it. Not that of `rules_pack`, which asks for a place above 0: here 0 stands for no operand.
 fn before(x: usize) -> u16
     requires { x ≤ 512 }
     ensures { result ≡ x - 1 }

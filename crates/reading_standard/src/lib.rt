@@ -19,14 +19,6 @@ const LOOSEST: u8 = 6;
 // The level of a whole rule.
 const FULL: u8 = 7;
 
-// The place before a place.
-fn below(k: usize) -> u16
-    requires { (0 < k) × (k ≤ 512) }
-    ensures { result ≡ k - 1 }
-{
-    (k - 1) as u16
-}
-
 #[cycle(read_level_read_more_read_prefix)]
 fn read_level(s: &[u8], lent: &mut Lent<'_>, l: u8, at: usize, k: usize) -> Option<(usize, usize)>
     requires { (l ≤ full) × Room s.now at k }
@@ -53,14 +45,16 @@ fn read_more(s: &[u8], lent: &mut Lent<'_>, j: u8, at: usize, m: usize) -> Optio
     match token_at(s, at) {
         Next::Sign(c, e) if rank_of(c) == j + 1 => {
             let (w, q) = read_level(s, lent, j, e, m)?;
-            lent.put(w, c, below(m), 0, 0);
+            lent.put(w, c, (m - 1) as u16, 0, 0);
             read_more(s, lent, j, q, w + 1)
         }
         Next::Mark(b'?', e) if j == LOOSEST => {
             let (v, i) = read_level(s, lent, FULL, e, m)?;
             let p = past(s, i, b':')?;
             let (w, q) = read_level(s, lent, FULL, p, v)?;
-            lent.put(w, node::TERNARY, below(m), below(v), 0);
+            let condition = (m - 1) as u16;
+            let first = (v - 1) as u16;
+            lent.put(w, node::TERNARY, condition, first, 0);
             Some((w + 1, q))
         }
         _ => Some((m, at)),

@@ -70,6 +70,7 @@ fn zero_at(nodes: Nodes<'_>, root: usize, n: u64) -> usize
     ensures { result ≡ zero_at (pool_in nodes.entry) n root }
 {
     let mut at = root;
+    // from a node to the operand that has no value, until there is none
     loop {
         let next = step(nodes, at, n);
         if next == at {

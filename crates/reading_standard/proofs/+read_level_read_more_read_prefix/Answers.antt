@@ -51,7 +51,7 @@ read_more-read_more-requires t c = let a = (signed _ _ c.in-Sign.ensures).step i
 
 pub read_more-returns-in_ok-w-in-Sign-clause-read : goal.read_more-returns-in_ok-w-in-Sign-clause-read
 read_more-returns-in_ok-w-in-Sign-clause-read t c = let a = signed _ _ c.in-Sign.ensures in
-    more_more a.step (omega (arith, c.rank_of.ensures.is a.known.op a.known.is, c.if-rank_of-j.true)) (sym a.known.is) c.in_ok-w-in-Sign.ensures.read c.below.ensures c.put.ensures.put c.read_more.ensures.read
+    more_more a.step (omega (arith, c.rank_of.ensures.is a.known.op a.known.is, c.if-rank_of-j.true)) (sym a.known.is) c.in_ok-w-in-Sign.ensures.read refl c.put.ensures.put c.read_more.ensures.read
 
 pub read_more-read_level-requires-in-Mark-eq63-default : goal.read_more-read_level-requires-in-Mark-eq63-default
 read_more-read_level-requires-in-Mark-eq63-default t c = let a = marked _ _ c.in-Mark-eq63-default.ensures in
@@ -75,8 +75,8 @@ pub read_more-returns-in_err-w-in-Mark-eq63-default-clause-read : goal.read_more
 read_more-returns-in_err-w-in-Mark-eq63-default-clause-read t c = rw c.from_residual-in_err-w-in-Mark-eq63-default.ensures
     (ask_last (marked _ _ c.in-Mark-eq63-default.ensures) c.in-Mark-eq63-default.field-0-test c.if-j-eq-LOOSEST.true c.in_ok-v-in-Mark-eq63-default.ensures.read (got_past _ _ _ c.in_ok-p-in-Mark-eq63-default.ensures) c.in_err-w-in-Mark-eq63-default.ensures.read)
 
-pub read_more-below-requires-in-Mark-eq63-default-2 : goal.read_more-below-requires-in-Mark-eq63-default-2
-read_more-below-requires-in-Mark-eq63-default-2 t c = let a = marked _ _ c.in-Mark-eq63-default.ensures in
+pub read_more-overflow_cast-first : goal.read_more-overflow_cast-first
+read_more-overflow_cast-first t c = let a = marked _ _ c.in-Mark-eq63-default.ensures in
     let b = gave c.in_ok-v-in-Mark-eq63-default.ensures.read in
     let d = got_past _ _ _ c.in_ok-p-in-Mark-eq63-default.ensures in
     let e = gave c.in_ok-w-in-Mark-eq63-default.ensures.read in
@@ -89,9 +89,16 @@ read_more-put-requires-in-Mark-eq63-default t c = let a = marked _ _ c.in-Mark-e
     let e = gave c.in_ok-w-in-Mark-eq63-default.ensures.read in
     omega (arith, c.requires, a.further, a.within, b.0, b.1, b.2, d.further, d.within, e.0, e.1, e.2)
 
+pub read_more-overflow_add-result : goal.read_more-overflow_add-result
+read_more-overflow_add-result t c = let a = marked _ _ c.in-Mark-eq63-default.ensures in
+    let b = gave c.in_ok-v-in-Mark-eq63-default.ensures.read in
+    let d = got_past _ _ _ c.in_ok-p-in-Mark-eq63-default.ensures in
+    let e = gave c.in_ok-w-in-Mark-eq63-default.ensures.read in
+    omega (arith, c.requires, a.further, a.within, b.0, b.1, b.2, d.further, d.within, e.0, e.1, e.2)
+
 pub read_more-returns-in_ok-w-in-Mark-eq63-default-clause-read : goal.read_more-returns-in_ok-w-in-Mark-eq63-default-clause-read
 read_more-returns-in_ok-w-in-Mark-eq63-default-clause-read t c = ask_ask (marked _ _ c.in-Mark-eq63-default.ensures) c.in-Mark-eq63-default.field-0-test c.if-j-eq-LOOSEST.true c.in_ok-v-in-Mark-eq63-default.ensures.read (got_past _ _ _ c.in_ok-p-in-Mark-eq63-default.ensures)
-    c.in_ok-w-in-Mark-eq63-default.ensures.read c.below-in-Mark-eq63-default.ensures c.below-in-Mark-eq63-default-2.ensures c.put-in-Mark-eq63-default.ensures.put
+    c.in_ok-w-in-Mark-eq63-default.ensures.read refl refl c.put-in-Mark-eq63-default.ensures.put
 
 pub read_more-returns-in_default-clause-read : goal.read_more-returns-in_default-clause-read
 read_more-returns-in_default-clause-read t c = let a = signed _ _ c.in-Sign.ensures in
