@@ -1,4 +1,4 @@
--- The text that answers, and where it lies. Document 01: "the answer is a part of the file or of the caller's text".
+-- The text that answers, and where it lies. SPEC 9: that part of the file, or the caller's own text.
 use Rattle.std.specs.Prelude.{ℕ, ◌+◌, ◌≡◌, Bool, true, false, List, length, take, drop, leb, eqb}
 use Rattle.std.specs.Borrow.{Bor}
 use Rattle.lookup.specs.declared.Reason.{Reason}

@@ -150,7 +150,7 @@ pub fn nfind_indexed(
     by_slots(file, value, sought)
 }
 
-// The number, or document 02's.
+// Its number, as SPEC 9 and 10.2 have it.
 pub fn number_of(reason: Reason) -> u32
     ensures { result ≡ number reason }
 {

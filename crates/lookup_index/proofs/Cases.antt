@@ -1,4 +1,4 @@
--- Document 01's file F with an index, by computing; where "a" goes was computed apart: 5381 * 33 + 97 is even. Assumes nothing.
+-- The file F of the starred cases with an index, by computing; where "a" goes was computed apart: 5381 * 33 + 97 is even. Assumes nothing.
 use Prim.Native.Nat.{ℕ}
 use mathlib.Core.Path.{◌≡◌, refl}
 use mathlib.Core.Bool.{false}

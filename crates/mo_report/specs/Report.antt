@@ -1,4 +1,4 @@
--- What is said of a file. Document 01, "Files and rules to try", its last paragraph: the program reads in the Shipped reading.
+-- What is said of a file. SPEC 15: the program reads in the Shipped reading.
 use Rattle.std.specs.Prelude.{ℕ, false, List, ◌++◌, codes, Option, Some, None, Result, Ok, Err}
 use Rattle.std.specs.Fmt.{decimal}
 use Rattle.refusal.specs.declared.Refusal.{Refusal}
