@@ -1,4 +1,4 @@
--- Files to try, F and its variants, computed from the definition; those that it stars are in the table of crate `starred`. Assumes
+-- Files to try, F and its variants, computed from the definition; those that are starred stand in the table of crate `starred`. Assumes
 -- nothing.
 use Prim.Native.Nat.{ℕ, zero, suc}
 use mathlib.Core.Path.{◌≡◌, refl}
