@@ -1,8 +1,8 @@
 -- The tree that a pool holds at a place, by the code there; what a walk over a sound pool knows at a place, and what the tree test tells it.
 -- The definition counts down from the place; after `tree_is` nothing does.
-use mathlib.Core.Path.{◌≡◌, refl, ◌∙◌}
+use mathlib.Core.Path.{◌≡◌, refl, sym, ◌∙◌}
 use mathlib.Core.Bool.{Bool, true, false, ◌&&◌}
-use mathlib.Core.List.{List, ◌∷◌}
+use mathlib.Core.List.{List, [], ◌∷◌}
 use mathlib.Core.Logic.{⊎_elim}
 use mathlib.Core.Option.{some}
 use Prim.Native.Nat.{ℕ, zero, suc, ◌-◌, ◌<◌, ◌≤◌}
@@ -205,3 +205,7 @@ unfolding is_tree
 tree_any c s v w count root =
     let a : (i : ℕ) → i < count → Alike (pool c s v) (pool c s w) i = λ i h. record { code_same = refl; field_same = λ j l. refl } in
     rw (shaped_same (pool c s v) (pool c s w) count a, used_same (pool c s v) (pool c s w) count a)
+
+-- what the test told
+pub told : (P : Pool) (count root : ℕ) {r b : Bool} → r ≡ is_tree (pool P.codes P.places []) count root → r ≡ b → is_tree P count root ≡ b
+told P count root e d = tree_any P.codes P.places P.values [] count root ∙ sym e ∙ d

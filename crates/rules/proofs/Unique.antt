@@ -8,10 +8,14 @@ use borrow.Fn.Kinds.{Dens, res_t, ended_of}
 use mathlib.Core.Path.{◌≡◌}
 use Rattle.rules.specs.Pool.{Pool, pool_in}
 use Rattle.rules.specs.Lent.{pool_left}
-use Rattle.rules.proofs.Nodes.field.Reads as field
-use Rattle.rules.proofs.Nodes.field.Kinds as field-kinds
-use Rattle.rules.proofs.Nodes.place.Reads as place
-use Rattle.rules.proofs.Nodes.place.Kinds as place-kinds
+use Rattle.rules.proofs.field.Reads as field
+use Rattle.rules.proofs.field.Kinds as field-kinds
+use Rattle.rules.proofs.place.Reads as place
+use Rattle.rules.proofs.place.Kinds as place-kinds
+use Rattle.rules.proofs.Nodes.field.Reads as nodes-field
+use Rattle.rules.proofs.Nodes.field.Kinds as nodes-field-kinds
+use Rattle.rules.proofs.Nodes.place.Reads as nodes-place
+use Rattle.rules.proofs.Nodes.place.Kinds as nodes-place-kinds
 use Rattle.rules.proofs.Lent.put_default.Reads as put-default
 use Rattle.rules.proofs.Lent.put_default.Kinds as put-default-kinds
 use Rattle.rules.proofs.Lent.put.Reads as put
@@ -24,6 +28,12 @@ field_one κs a u v x y p q = p ∙ sym q
 
 pub place_one : One 1 place-kinds.ps place-kinds.r place.Post
 place_one κs a u v x y p q = p ∙ sym q
+
+pub nodes_field_one : One 1 nodes-field-kinds.ps nodes-field-kinds.r nodes-field.Post
+nodes_field_one κs a u v x y p q = p ∙ sym q
+
+pub nodes_place_one : One 1 nodes-place-kinds.ps nodes-place-kinds.r nodes-place.Post
+nodes_place_one κs a u v x y p q = p ∙ sym q
 
 -- the arrays that are lent, as a pool
 abbrev pub put_left : (κs : Lfts 2) → AtExit (ended_of 2 put-kinds.ps put-kinds.r) κs → Pool

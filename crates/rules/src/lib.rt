@@ -30,7 +30,7 @@ impl<'a> Nodes<'a> {
         requires { (at < 512) × (j < 2) }
         ensures { result ≡ get_or self.entry.places.now (2 * at + j) 0 }
     {
-        self.places[2 * at + j]
+        field(self.places, at, j)
     }
 
     // The same as a place.
@@ -38,8 +38,24 @@ impl<'a> Nodes<'a> {
         requires { (at < 512) × (j < 2) }
         ensures { result ≡ get_or self.entry.places.now (2 * at + j) 0 }
     {
-        usize::from(self.field(at, j))
+        place(self.places, at, j)
     }
+}
+
+// The number in field j of the node at a place. The codes and the values are not asked for.
+pub fn field(places: &[u16; 1024], at: usize, j: usize) -> u16
+    requires { (at < 512) × (j < 2) }
+    ensures { result ≡ get_or places.now (2 * at + j) 0 }
+{
+    places[2 * at + j]
+}
+
+// The same as a place.
+pub fn place(places: &[u16; 1024], at: usize, j: usize) -> usize
+    requires { (at < 512) × (j < 2) }
+    ensures { result ≡ get_or places.now (2 * at + j) 0 }
+{
+    usize::from(field(places, at, j))
 }
 
 // A rule of a catalog: nodes, how many of them are the rule's, and the place of its root. `rules_tree::is_tree` tests whether they are a tree.

@@ -206,7 +206,7 @@ fn rate(nodes: &Nodes<'_>, at: usize, high: &mut u64) -> u64
 pub fn rating_of(rule: Rule<'_>) -> Result<Option<(u64, u64)>, NoTree>
     ensures { result ≡ rated_of (pool_in rule.entry.nodes) rule.entry.count rule.entry.root }
 {
-    if !rules_tree::is_tree(rule) {
+    if !rules_tree::is_tree(rule.nodes.codes, rule.nodes.places, rule.count, rule.root) {
         return Err(NoTree);
     }
     let mut high = 0;

@@ -69,7 +69,7 @@ pub fn tally(rule: Rule<'_>, a: u64, b: u64, figures: &mut [u64; LINES]) -> Resu
         figures_of (pool_in rule.entry.nodes) rule.entry.count rule.entry.root a b }
 {
     *figures = [0; LINES];
-    if !rules_tree::is_tree(rule) {
+    if !rules_tree::is_tree(rule.nodes.codes, rule.nodes.places, rule.count, rule.root) {
         return Err(Uncounted::NoTree);
     }
     if b < a {

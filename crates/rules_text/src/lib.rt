@@ -59,12 +59,14 @@ impl Text {
     fn put(&mut self, b: u8)
         ensures { On (Puts (b ∷ [])) self.old self.new }
     {
-        if MOST <= self.end {
+        // read once: after the byte is written, the machine would read the place from memory again
+        let end = self.end;
+        if MOST <= end {
             self.end = MOST + 1;
             return;
         }
-        self.bytes[self.end] = b;
-        self.end += 1;
+        self.bytes[end] = b;
+        self.end = end + 1;
     }
 
     // Puts a number in decimal digits.
@@ -229,7 +231,7 @@ pub fn write(rule: Rule<'_>, buffer: &mut [u8]) -> Result<usize, Unwritten>
         (bracketed (tree_of (pool_in rule.entry.nodes) rule.entry.root)) buffer.old }
     ensures bounded { BoundedBy result (tree_of (pool_in rule.entry.nodes) rule.entry.root) }
 {
-    if !rules_tree::is_tree(rule) {
+    if !rules_tree::is_tree(rule.nodes.codes, rule.nodes.places, rule.count, rule.root) {
         return Err(Unwritten::NoTree);
     }
     let mut text = Text {

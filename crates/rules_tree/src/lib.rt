@@ -2,12 +2,12 @@
 // plural lookup and every rating begins with it. And where a walk over them can go in a loop.
 #![tactic(auto)]
 
-ghost use Rattle.std.specs.Prelude.{◌≡◌, true, ◌&&◌, ◌+◌, ◌<◌, ◌≤◌, ◌*◌, length, get_or};
-ghost use Rattle.rules.specs.Pool.{pool_in, nay_node, distinct, used, shaped, is_tree};
+ghost use Rattle.std.specs.Prelude.{◌≡◌, true, ◌&&◌, [], ◌+◌, ◌<◌, ◌≤◌, ◌*◌, length, get_or};
+ghost use Rattle.rules.specs.Pool.{pool, nay_node, distinct, used, shaped, is_tree};
 ghost use Rattle.rules_tree.specs.Promise.{above, Stands};
 ghost use Rattle.rules_tree.specs.Private.{Unmarked, Marked, Took, Placed};
 
-use rules::{Nodes, Rule, node};
+use rules::{node, place};
 
 // Above all codes.
 pub const CODES: u8 = node::TERNARY + 1;
@@ -16,11 +16,11 @@ pub const CODES: u8 = node::TERNARY + 1;
 const FEW: usize = 64;
 
 // Whether the operand that field j of the node at p names lies below it and is no operand yet; it is marked as one then.
-fn takes(nodes: Nodes<'_>, marks: &mut [u8], p: usize, j: usize) -> bool
+fn takes(places: &[u16; 1024], marks: &mut [u8], p: usize, j: usize) -> bool
     requires { (p < 512) × (j < 2) × (p < length marks.old) }
-    ensures { Took (get_or nodes.entry.places.now (2 * p + j) 0) p marks.old marks.new result }
+    ensures { Took (get_or places.now (2 * p + j) 0) p marks.old marks.new result }
 {
-    let q = nodes.place(p, j);
+    let q = place(places, p, j);
     if p <= q {
         return false;
     }
@@ -32,12 +32,12 @@ fn takes(nodes: Nodes<'_>, marks: &mut [u8], p: usize, j: usize) -> bool
 }
 
 // Whether the node at p has a known code and takes all its operands. No node before it can have taken the place before it.
-fn is_node(nodes: Nodes<'_>, marks: &mut [u8], p: usize) -> bool
+fn is_node(codes: &[u8; 512], places: &[u16; 1024], marks: &mut [u8], p: usize) -> bool
     requires room { (p < 512) × (p < length marks.old) }
-    requires before { (shaped (pool_in nodes) p ≡ true) × Marked marks.old (used (pool_in nodes) p) }
-    ensures { Placed (pool_in nodes.entry) p marks.old marks.new result }
+    requires before { (shaped (pool codes.now places.now []) p ≡ true) × Marked marks.old (used (pool codes.now places.now []) p) }
+    ensures { Placed (pool codes.now places.now []) p marks.old marks.new result }
 {
-    let code = nodes.codes[p];
+    let code = codes[p];
     if code < node::NOT {
         return true;
     }
@@ -48,7 +48,7 @@ fn is_node(nodes: Nodes<'_>, marks: &mut [u8], p: usize) -> bool
     if code < node::OP {
         return true;
     }
-    if !takes(nodes, marks, p, 0) {
+    if !takes(places, marks, p, 0) {
         return false;
     }
     if code < node::TERNARY {
@@ -57,16 +57,16 @@ fn is_node(nodes: Nodes<'_>, marks: &mut [u8], p: usize) -> bool
     if code != node::TERNARY {
         return false;
     }
-    takes(nodes, marks, p, 1)
+    takes(places, marks, p, 1)
 }
 
 // Whether every node passes, and none is an operand twice.
-fn passes(nodes: Nodes<'_>, marks: &mut [u8], count: usize) -> bool
+fn passes(codes: &[u8; 512], places: &[u16; 1024], marks: &mut [u8], count: usize) -> bool
     requires { (count ≤ 512) × (count ≤ length marks.old) × Unmarked marks.old }
-    ensures { result ≡ (shaped (pool_in nodes.entry) count && distinct (used (pool_in nodes.entry) count)) }
+    ensures { result ≡ (shaped (pool codes.now places.now []) count && distinct (used (pool codes.now places.now []) count)) }
 {
     for p in 0..count {
-        if !is_node(nodes, marks, p) {
+        if !is_node(codes, places, marks, p) {
             return false;
         }
     }
@@ -74,21 +74,21 @@ fn passes(nodes: Nodes<'_>, marks: &mut [u8], count: usize) -> bool
 }
 
 // Whether the nodes are a tree. The values are not looked at.
-pub fn is_tree(rule: Rule<'_>) -> bool
-    ensures { result ≡ is_tree (pool_in rule.entry.nodes) rule.entry.count rule.entry.root }
+pub fn is_tree<'a>(codes: &'a [u8; 512], places: &'a [u16; 1024], count: usize, root: usize) -> bool
+    ensures { result ≡ is_tree (pool codes.now places.now []) count root }
 {
-    if rules::MOST < rule.count {
+    if rules::MOST < count {
         return false;
     }
-    if rule.count <= rule.root {
+    if count <= root {
         return false;
     }
-    if rule.count <= FEW {
+    if count <= FEW {
         let mut marks = [0u8; 64];
-        return passes(rule.nodes, &mut marks, rule.count);
+        return passes(codes, places, &mut marks, count);
     }
     let mut marks = [0u8; 512];
-    passes(rule.nodes, &mut marks, rule.count)
+    passes(codes, places, &mut marks, count)
 }
 
 // Whether a node has an operand, and its code is below an end.

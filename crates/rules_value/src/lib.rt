@@ -143,7 +143,7 @@ pub fn value_at(nodes: Nodes<'_>, at: usize, n: u64) -> Option<u64>
 pub fn resolve(rule: Rule<'_>, n: u64) -> Result<u64, NoForm>
     ensures { result ≡ resolved_of (pool_in rule.entry.nodes) rule.entry.count rule.entry.root n }
 {
-    if !rules_tree::is_tree(rule) {
+    if !rules_tree::is_tree(rule.nodes.codes, rule.nodes.places, rule.count, rule.root) {
         return Err(NoForm::NoTree);
     }
     value_at(rule.nodes, rule.root, n).ok_or(NoForm::ZeroModulus)
