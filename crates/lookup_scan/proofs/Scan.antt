@@ -1,11 +1,12 @@
 -- The last entry with a key, as the scan from the last one down meets it. Assumes nothing.
-use Prim.Native.Nat.{ℕ, suc, ◌+◌, ◌*◌, ◌≤◌}
-use mathlib.Core.Path.{◌≡◌, refl, sym, ap, ◌∙◌}
+use Prim.Native.Nat.{ℕ, suc, ◌+◌, ◌*◌, ◌<◌, ◌≤◌}
+use mathlib.Core.Path.{◌≡◌, refl, sym, ap, subst, ◌∙◌}
 use mathlib.Core.Bool.{Bool, true, false}
 use mathlib.Core.List.{List}
 use native.Mathlib.Omega.{arith}
 use lib.ListN.{length, take, drop}
-use borrow.Author.Tests.{leb-false}
+use lib.Dec.{eqb}
+use borrow.Author.Tests.{leb-false, eqb-true, eqb-false}
 use Rattle.text.specs.Bytes.{same}
 use Rattle.text.proofs.Tests.{never, taken, left, by_test}
 use Rattle.container_layout.specs.Mo.{entry}
@@ -13,7 +14,7 @@ use Rattle.container_layout.specs.declared.Entry.{Entry}
 use Rattle.container_layout.proofs.Cells.{no_cell}
 use Rattle.lookup_scan.specs.Keys.{is_key, hit_of, last_in, last_with}
 use Rattle.lookup_scan.specs.Promise.{hit_if}
-use Rattle.lookup_scan.specs.Private.{MayBe, ScanFrom}
+use Rattle.lookup_scan.specs.Private.{MayBe, LastMaybe, after, ScanFrom}
 use Rattle.container_layout.specs.declared.Tables.{Tables}
 use Rattle.lookup_scan.specs.declared.Hit.{Hit}
 use Rattle.std.specs.Prelude.{Option, Some, None}
@@ -80,9 +81,16 @@ module _ (s : List ℕ) (t : Tables) (key : List ℕ) where
     pub passed_miss : r ≡ None → Passed s t key j
     passed_miss f = record { is = p.is ∙ ap (last_in (entry s t) (is_key s key)) z ∙ step_miss j (sym e ∙ f) }
 
-  -- what the quick test rules out is passed
-  pub passed_quick : {i j n : ℕ} {r : Bool} → i ≡ suc j → MayBe s t j n r → r ≡ false → length key ≡ n → Passed s t key i → Passed s t key j
-  passed_quick {i} {j} z m f l p = passed_miss z (hit_false j (m.no f key l)) p refl
+  -- what the quick test has passed, down to an entry that may have the key, or all
+  module _ {i n : ℕ} {r : Option ℕ} (m : LastMaybe s t i n r) (l : length key ≡ n) (p : Passed s t key i) where
+    passed_after : Passed s t key (after r)
+    passed_after = record { is = p.is ∙ last_from (entry s t) (is_key s key) (after r) i m.within (λ j a b. m.no key l j a b) }
+
+    pub passed_down : {j : ℕ} → r ≡ Some j → Passed s t key (suc j)
+    passed_down e = subst (λ (k : ℕ). Passed s t key k) (ap after e) passed_after
+
+    pub passed_all : r ≡ None → None ≡ last_with s t key
+    passed_all e = passed_end (ap after e) passed_after
 
   -- the entry as the code has it
   pub told_key : (i : ℕ) {x : Entry} → entry s t i ≡ Some x → same key (take x.key_len (drop x.key s)) ≡ true
@@ -90,3 +98,31 @@ module _ (s : List ℕ) (t : Tables) (key : List ℕ) where
   told_key i e h =
       let q : is_key s key (entry s t i) ≡ true = ap (is_key s key) e ∙ h in
       sym (hit_true i q ∙ ap (hit_of i) e)
+
+-- the entries from i on, below a place, have no key of n bytes
+pub record Down (s : List ℕ) (t : Tables) (below n i : ℕ) : Type 0 where
+  pub within : i ≤ below
+  pub no : (key : List ℕ) → length key ≡ n → (j : ℕ) → i ≤ j → j < below → is_key s key (entry s t j) ≡ false
+
+module _ (s : List ℕ) (t : Tables) (below n : ℕ) where
+  pub down_first : {i : ℕ} → i ≡ below → Down s t below n i
+  down_first z = record { within = omega (arith, z); no = λ key l j a b. absurd (omega (arith, z)) }
+
+  -- what the quick test rules out is passed
+  pub down_quick : {i j : ℕ} {r : Bool} → i ≡ suc j → MayBe s t j n r → r ≡ false → Down s t below n i → Down s t below n j
+  down_quick {i} {j} z m f d = record {
+    within = omega (arith, d.within);
+    no = λ key l k a b. by_eq key l k a b;
+  }
+    where
+      by_eq : (key : List ℕ) → length key ≡ n → (k : ℕ) → j ≤ k → k < below → is_key s key (entry s t k) ≡ false
+      by_eq key l k a b =
+          by_test (is_key s key (entry s t k) ≡ false) (eqb j k)
+          (λ e. let q : j ≡ k = eqb-true j k e in ap (λ (x : ℕ). is_key s key (entry s t x)) (sym q) ∙ m.no f key l)
+          (λ e. d.no key l k (let q = eqb-false j k e in omega arith) b)
+
+  pub down_end : {i : ℕ} → i ≡ 0 → Down s t below n i → LastMaybe s t below n None
+  down_end z d = record { within = omega arith; no = λ key l j a b. d.no key l j (omega arith) b }
+
+  pub down_found : {i j : ℕ} → i ≡ suc j → Down s t below n i → LastMaybe s t below n (Some j)
+  down_found z d = record { within = omega (arith, d.within); no = λ key l k a b. d.no key l k (omega arith) b }

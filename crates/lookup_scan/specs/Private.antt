@@ -1,5 +1,5 @@
 -- What the functions behind the public ones promise.
-use Rattle.std.specs.Prelude.{ℕ, ◌+◌, ◌-◌, ◌<◌, ◌≤◌, ◌≡◌, Bool, true, false, ◌&&◌, List, length, get_or, take, drop, eqb, leb, Some}
+use Rattle.std.specs.Prelude.{ℕ, suc, ◌+◌, ◌-◌, ◌<◌, ◌≤◌, ◌≡◌, Bool, true, false, ◌&&◌, List, length, get_or, take, drop, eqb, leb, Option, Some, None}
 use Rattle.text.specs.Bytes.{same}
 use Rattle.lookup_scan.specs.Keys.{key_of, is_key}
 use Rattle.container_layout.specs.Mo.{has_cell, string, entry, id_end}
@@ -13,6 +13,15 @@ ends_after s at len n = leb n len && eqb (get_or s (at + n) 0) 0
 -- entry i may have a key of n bytes; where it may not, it has none of that length
 pub record MayBe (s : List ℕ) (t : Tables) (i n : ℕ) (r : Bool) : Type 0 where
   pub no : r ≡ false → (key : List ℕ) → length key ≡ n → is_key s key (entry s t i) ≡ false
+
+-- an entry below a place that may have a key of n bytes, or none: what follows it, up to that place, has no key of that length
+abbrev pub after : Option ℕ → ℕ
+after None = 0
+after (Some i) = suc i
+
+pub record LastMaybe (s : List ℕ) (t : Tables) (below n : ℕ) (r : Option ℕ) : Type 0 where
+  pub within : after r ≤ below
+  pub no : (key : List ℕ) → length key ≡ n → (j : ℕ) → after r ≤ j → j < below → is_key s key (entry s t j) ≡ false
 
 -- no index from here on up to the count has its cell in the file
 pub record ScanFrom (s : List ℕ) (t : Tables) (r : ℕ) : Type 0 where

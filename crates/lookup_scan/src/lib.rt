@@ -5,7 +5,7 @@
 ghost use Rattle.std.specs.Prelude.{◌≡◌, true, ◌+◌, ◌<◌, ◌≤◌, length};
 ghost use Rattle.lookup_scan.specs.Keys.{key_of, bytes_of, last_with};
 ghost use Rattle.lookup_scan.specs.Promise.{Sized, hit_if};
-ghost use Rattle.lookup_scan.specs.Private.{InContext, ends_after, MayBe, ScanFrom, Ending, has_from, has_key, Starts};
+ghost use Rattle.lookup_scan.specs.Private.{InContext, ends_after, MayBe, LastMaybe, ScanFrom, Ending, has_from, has_key, Starts};
 
 use container_layout::{Tables, wide};
 use text::Stretch;
@@ -184,19 +184,34 @@ fn scan_from(file: &[u8], t: Tables) -> usize
     most.min(wide(t.count))
 }
 
-// The last entry with the key: the entries are passed from the last one down, most of them by the quick test alone.
-#[tactic(auto, using(crate::proofs::Keys::sized_is, crate::proofs::Keys::sized_long, crate::proofs::Scan::too_long, crate::proofs::Scan::passed_end, crate::proofs::Scan::passed_hit, crate::proofs::Scan::passed_miss, crate::proofs::Scan::passed_quick))]
+// The last entry below a place that may have a key of n bytes: the entries are passed from the last one down, by the quick test alone. It is a function of its
+// own and stays one, so that the loop holds no call: short, it is as fast wherever a host's linker puts it.
+#[inline(never)]
+#[tactic(auto, using(crate::proofs::Scan::down_quick, crate::proofs::Scan::down_end, crate::proofs::Scan::down_found))]
+fn last_maybe(file: &[u8], t: Tables, below: usize, n: usize) -> Option<usize>
+    ensures { LastMaybe file.now t below n result }
+{
+    for i in (0..below).rev() {
+        if may_be(file, t, i, n) {
+            return Some(i);
+        }
+    }
+    None
+}
+
+// The last entry with the key.
+#[tactic(auto, using(crate::proofs::Keys::sized_long, crate::proofs::Scan::too_long))]
 pub fn last_hit(file: &[u8], t: Tables, key: Key<'_>) -> Option<Hit>
     ensures { result ≡ last_with file.now t (bytes_of key.entry) }
 {
     let n = size_of(file.len(), key)?;
-    let most = scan_from(file, t);
-    for i in (0..most).rev() {
-        if may_be(file, t, i, n) {
-            if let Some(hit) = hit_at(file, t, i, n, key) {
-                return Some(hit);
-            }
+    let mut below = scan_from(file, t);
+    // on below each entry that might have had the key
+    while let Some(i) = last_maybe(file, t, below, n) {
+        if let Some(hit) = hit_at(file, t, i, n, key) {
+            return Some(hit);
         }
+        below = i;
     }
     None
 }

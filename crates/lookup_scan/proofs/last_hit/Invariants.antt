@@ -4,4 +4,7 @@ use Rattle.lookup_scan.proofs.Scan.{Passed}
 use Rattle.lookup_scan.proofs.last_hit.Given as goal
 
 abbrev pub invariant-loop-i : goal.invariant-loop-i
-invariant-loop-i l = Passed l.file l.t (bytes_of l.fn.key) l.i
+invariant-loop-i l = Passed l.file l.t (bytes_of l.fn.key) l.below
+
+abbrev pub decreases-loop-i : goal.decreases-loop-i
+decreases-loop-i l = l.below
