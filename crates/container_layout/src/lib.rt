@@ -173,16 +173,17 @@ fn segment_in(translation: &[u8], start: usize, form: u64) -> Option<Stretch>
     ensures { result ≡ piece_at start form (cut 0 translation.now) }
 {
     let mut at = 0;
+    let mut end = text::find_byte(translation, 0);
     for passed in 0..form {
-        let end = text::find_byte_from(translation, at, 0);
         if translation.len() <= end {
             return None;
         }
         at = end + 1;
+        end = text::find_byte_from(translation, at, 0);
     }
     Some(Stretch {
         start: start + at,
-        len: text::find_byte_from(translation, at, 0) - at,
+        len: end - at,
     })
 }
 

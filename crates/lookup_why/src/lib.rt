@@ -1,7 +1,7 @@
 // Why a lookup with a count answers as it does, with what support asks for: the node, the entry, how many forms it stores.
 #![tactic(auto)]
 
-ghost use Rattle.std.specs.Prelude.{◌≡◌, length};
+ghost use Rattle.std.specs.Prelude.{◌≡◌, ◌≤◌, ◌==◌, length, count_by};
 ghost use Rattle.text.specs.Cut.{cut};
 ghost use Rattle.rules.specs.Pool.{pool_in};
 ghost use Rattle.rules_zero.specs.Zero.{traced_of};
@@ -26,11 +26,34 @@ pub enum Why {
     Answered(usize, u64, usize, usize),
 }
 
-// How many segments a translation has: one more than it has NULs.
+// How many bytes are counted at once: by 16, and no more than a byte can count.
+const BLOCK: usize = 192;
+
+// How many NULs a block has. They are added up in a byte and not met one by one, so that the machine takes 16 bytes at once.
+fn nuls_in(block: &[u8]) -> u8
+    requires { length block.now ≤ 255 }
+    ensures { result ≡ count_by (λ b. b == 0) block.now }
+{
+    let mut nuls = 0;
+    for b in block {
+        nuls += u8::from(*b == 0);
+    }
+    nuls
+}
+
+// How many segments a translation has: one more than it has NULs. On from NUL to NUL, but those of a block are counted at once.
 fn count_in(translation: &[u8]) -> usize
     ensures { result ≡ length (cut 0 translation.now) }
 {
-    translation.iter().filter(|b| **b == 0).count() + 1
+    let mut count = 1;
+    let mut at = text::find_byte(translation, 0);
+    // on by a block that begins with a NUL
+    while at < translation.len() {
+        let end = translation.len().min(at + BLOCK);
+        count += usize::from(nuls_in(&translation[at..end]));
+        at = text::find_byte_from(translation, end, 0);
+    }
+    count
 }
 
 // How many segments the translation at a place stores.
