@@ -77,7 +77,8 @@ pub fn parse(
     ensures parsed { Parses (parsed place reading text.now) (pool_left lent.new) result }
 {
     let s = text_trim::trim(text, Set::WhiteSpace);
-    if rules::MOST < s.len() {
+    let long = rules::MOST < s.len();
+    if long {
         return refuse(refusal::at(place, Error::RuleTooLong), lent);
     }
     if !ascii(s) {

@@ -121,7 +121,7 @@ fn is_plain(s: &[u8]) -> bool
     if !block(s, n - 18) {
         return false;
     }
-    s[n - 2] < 0xE0 && s[n - 1] < 0xC0
+    s[n - 1] < 0xC0 && s[n - 2] < 0xE0
 }
 
 // The UTF-8 test: RFC 3629. The tables are asked of a text that the quick tests do not pass.
