@@ -1,7 +1,9 @@
 -- The slots used, as the library finds them, and whether so many are lent. Assumes nothing.
-use Prim.Native.Nat.{ℕ, ◌*◌, ◌/◌, ◌^◌, ◌<◌, ◌≤◌}
+use Prim.Native.Nat.{ℕ, ◌-◌, ◌*◌, ◌/◌, ◌^◌, ◌<◌, ◌≤◌}
 use mathlib.Core.Path.{◌≡◌, sym, ap, ◌∙◌}
 use native.Mathlib.Omega.{arith}
+use lib.Count.{count_leading_zeros, leading_length}
+use lib.Pow.{pow_mono}
 use lib.Dec.{leb}
 use borrow.Author.Tests.{le-leb, lt-leb, leb-true, leb-false}
 use Rattle.text.proofs.Tests.{taken, left, by_test}
@@ -30,3 +32,11 @@ next_used count {r} p l u = smallest_one (record { power = p.0; is = p.1; enough
         (λ e.
         let t : 2 * 2 ^ d ≤ 2 ^ p.0 = power_twice d p.0 (omega (arith, p.1, leb-false r (2 ^ d) e)) in
         absurd (omega (arith, p.1, power_positive d)))
+
+-- a number that leaves the top bit free has less than 64 bits
+pub bits_below : (n : ℕ) → n < 9223372036854775808 → 64 - count_leading_zeros 64 n < 64
+bits_below n h =
+    let w = leading_length 64 n (omega arith) in
+    by_test (64 - count_leading_zeros 64 n < 64) (leb 64 w.0)
+    (λ e. absurd (omega (arith, w.3, pow_mono (leb-true 64 w.0 e))))
+    (λ e. omega (arith, w.1, leb-false 64 w.0 e))
