@@ -386,6 +386,10 @@ pub fn write() -> Vec<u8> {
     for rule in KNOWN {
         s.rule(rule.as_bytes(), true);
     }
+    // * and / between operands: the other rules hold them only where C's grammar has no place for them
+    for rule in ["n*3", "n/2"] {
+        s.rule(rule.as_bytes(), true);
+    }
     for &x in alphabet {
         s.rule(&[x], true);
         for &y in b"n1()!% " {
