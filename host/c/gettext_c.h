@@ -10,7 +10,7 @@
  * Threads. The library has no state. Any calls may run at the same time.
  *
  * Stack. 256 KiB are enough for any load, 32 KiB for every other call and for a load with the rule n, whatever the file, the rule and the record; of
- * these, 122,728 and 22,496 bytes were taken at most (x86-64). stack.c makes the calls on stacks of just that size.
+ * these, 122,696 and 22,448 bytes were taken at most (x86-64). stack.c makes the calls on stacks of just that size.
  *
  * Input. Every value has an answer: any bytes as file, any record and any slots (altered, or of another file), any rule, any key and any
  * count. In the
